@@ -1,0 +1,66 @@
+// What a formula tells: its entries, its parts, and what an atom makes of them.
+ghost use mathlib.Core.Path.{_≡_};
+ghost use Prim.Native.Nat.{_<_, _≤_};
+ghost use lib.ListN.{length, getD};
+ghost use Rattle.std.specs.Options.{Cases as BySome};
+ghost use Rattle.formula.specs.Evaluated.{valueAt};
+ghost use Rattle.formula.specs.Stack.{sub};
+ghost use Rattle.formula.specs.Table.{size, weight};
+ghost use Rattle.formula.specs.View.{entriesOf};
+ghost use Rattle.formula.specs.declared.entry.Entry.the-variants.{True};
+use crate::entry::Entry;
+use crate::evaluate::evaluate;
+use crate::formula::Formula;
+use crate::spans::span;
+use crate::words::weigh;
+
+impl Formula {
+    // How many entries it has: 1 to 48.
+    pub fn len(&self) -> usize
+        ensures value { λ r. ⌜ r ≡ length (entriesOf (now (self .entry))) ⌝ }
+        ensures bound { λ r. ⌜ r ≤ 48 ⌝ }
+    {
+        self.len
+    }
+
+    // Its elementary count k: 0 to 10.
+    pub fn elementary(&self) -> usize
+        ensures value { λ r. ⌜ r ≡ weight (entriesOf (now (self .entry))) ⌝ }
+        ensures bound { λ r. ⌜ r ≤ 10 ⌝ }
+    {
+        weigh(&self.entries[0..self.len])
+    }
+
+    // The entry at a number; none past the end.
+    pub fn entry(&self, at: usize) -> Option<Entry>
+        ensures { λ r. ⌜ BySome r (length (entriesOf (now (self .entry))) ≤ at) (λ e. (at < length (entriesOf (now (self .entry)))) × (e ≡ getD (entriesOf (now (self .entry))) at True)) ⌝ }
+    {
+        if at >= self.len {
+            return None;
+        }
+        Some(self.entries[at])
+    }
+
+    // How many entries belong to the formula that ends at an entry; none past the end.
+    pub fn span(&self, at: usize) -> Option<usize>
+        ensures { λ r. ⌜ BySome r (length (entriesOf (now (self .entry))) ≤ at) (λ n. (at < length (entriesOf (now (self .entry)))) × (n ≡ size (sub (entriesOf (now (self .entry))) at))) ⌝ }
+    {
+        if at >= self.len {
+            return None;
+        }
+        Some(span(&self.entries[0..self.len], at))
+    }
+
+    // What the atom in a word makes of the formula that ends at an entry; none past the end.
+    // Its bits follow those of the elementary entries that stand before that formula.
+    pub fn value(&self, at: usize, word: u32) -> Option<bool>
+        ensures { λ r. ⌜ BySome r (length (entriesOf (now (self .entry))) ≤ at) (λ b. (at < length (entriesOf (now (self .entry)))) × (b ≡ valueAt (entriesOf (now (self .entry))) at word)) ⌝ }
+    {
+        if at >= self.len {
+            return None;
+        }
+        let entries = &self.entries[0..self.len];
+        let count = weigh(&entries[0..at + 1]);
+        Some(evaluate(entries, at, count, word).holds)
+    }
+}
