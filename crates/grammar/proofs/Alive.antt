@@ -9,7 +9,7 @@ use lib.Dec.{eqb, ltb, leb}
 use Rattle.std.proofs.shelf.Tests.{cases-lt, cases-eq, cond-true, cond-false, lt-ltb, le-ltb, ne-eqb, both-ways}
 use Rattle.std.proofs.shelf.Ways.{tells}
 use Rattle.grammar.specs.Phrases.{Phrase, truth, named, prefixed, joined, digits, closing, sign, write, Within, Begins, Is}
-use Rattle.grammar.specs.Machine.{Part, phrase, op, num, more, lit, Move, stop, to, digit, close, begin, across, move, final}
+use Rattle.grammar.specs.Machine.{Part, phrase, op, num, more, lit, Move, stop, to, digit, nameParts, begin, across, move, final}
 use Rattle.grammar.specs.declared.Name.{Name}
 use Rattle.grammar.specs.declared.Name.the-variants.{Fact, Enabled, Taken}
 use Rattle.grammar.proofs.Marks.{mark-84, mark-40, mark-opening, mark-letter, joint-sign, sign-clear}
@@ -86,7 +86,7 @@ module _ (l : Name → ℕ) (lim : Limits l) (end : List Part → Bool) (skip : 
           ∙ ap (λ m. go m (λ k′. run l end k′ ((48 + n % 10) ∷ v))) (first a k (n / 10) (omega arith) (omega arith))
           ∙ ap (λ m. go m (λ k′. run l end k′ v)) (second a k n h)
 
-  name-back : (a : Name) (n : ℕ) (k : List Part) (v : List ℕ) → n < l a → Clear v → run l end (num a ∷ close a k) ((digits n ++ closing a) ++ v) ≡ run l end k v
+  name-back : (a : Name) (n : ℕ) (k : List Part) (v : List ℕ) → n < l a → Clear v → run l end (nameParts a ++ k) ((digits n ++ closing a) ++ v) ≡ run l end k v
   name-back Fact n k v h cl = ap (λ s. run l end (num Fact ∷ k) (s ++ v)) (append-nil (digits n)) ∙ number-back Fact n k v h cl
   name-back Enabled n k v h cl = ap (λ s. run l end (num Enabled ∷ k) (s ++ v)) (append-nil (digits n)) ∙ number-back Enabled n k v h cl
   name-back Taken n k v h cl = ap (run l end (num Taken ∷ lit 93 ∷ k)) (append-assoc (digits n) (93 ∷ []) v) ∙ number-back Taken n (lit 93 ∷ k) (93 ∷ v) h refl

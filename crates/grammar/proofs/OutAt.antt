@@ -1,7 +1,7 @@
 -- Where a number out of range stops a text. Assumes nothing.
 use mathlib.Core.Path.{_≡_, refl, sym, ap, subst, _∙_}
 use mathlib.Core.Bool.{Bool, true, false, cond}
-use mathlib.Core.List.{List, [], _∷_}
+use mathlib.Core.List.{List, [], _∷_, _++_}
 use mathlib.Core.Logic.{_⊎_, inl, inr, ⊎-elim}
 use Prim.Native.Nat.{ℕ, zero, suc, _+_, _-_, _*_, _<_, _≤_}
 use native.Mathlib.Omega.{arith}
@@ -13,7 +13,7 @@ use Rattle.refusal.specs.declared.Layer.the-variants.{Text}
 use Rattle.refusal.specs.declared.Refusal.{Refusal}
 use Rattle.grammar.specs.Phrases.{opening, loose, strict, Begins}
 use Rattle.grammar.specs.Texts.{OutAt, NumberThere, Refused, by-length, by-byte, by-end, by-range, by-table}
-use Rattle.grammar.specs.Machine.{Part, phrase, op, num, more, lit, Move, stop, to, jointOf, digit, close, begin, across, move}
+use Rattle.grammar.specs.Machine.{Part, phrase, op, num, more, lit, Move, stop, to, jointOf, digit, nameParts, begin, across, move}
 use Rattle.grammar.specs.declared.Name.{Name}
 use Rattle.grammar.specs.declared.Name.the-variants.{Fact, Enabled, Taken}
 use Rattle.grammar.proofs.Alive.{go, alive, go-stop, begins-alive}
@@ -29,11 +29,6 @@ Plain (op ∷ k) = Plain k
 Plain (num n ∷ k) = ⊥
 Plain (more n d ∷ k) = ⊥
 Plain (lit b ∷ k) = Plain k
-
-close-plain : (a : Name) (k : List Part) → Plain k → Plain (close a k)
-close-plain Fact k h = h
-close-plain Enabled k h = h
-close-plain Taken k h = h
 
 -- what is to come, by the last two bytes
 abbrev Follows : ℕ → ℕ → List Part → Type 0
@@ -56,10 +51,15 @@ abbrev After : ℕ → ℕ → Move → Type 0
 After a b stop = Unit {0}
 After a b (to k) = Follows a b k
 
+opened : (a : Name) (b : ℕ) (k : List Part) → Plain k → Follows b (opening a) (nameParts a ++ k)
+opened Fact b k h = (refl, h)
+opened Enabled b k h = (refl, h)
+opened Taken b k h = (refl, h)
+
 plain-step : (l : Name → ℕ) (b c : ℕ) (k : List Part) → Plain k → After b c (move l k c)
 plain-step l b c [] h = tt
 plain-step l b c (phrase ∷ k) h =
-    by-mark (λ c m. After b c (begin m k)) (plainly b 84 k h) (λ a. (refl, close-plain a k h)) (λ x. h) h c tt
+    by-mark (λ c m. After b c (begin m k)) (plainly b 84 k h) (λ a. opened a b k h) (λ x. h) h c tt
 plain-step l b c (op ∷ k) h = by-joint (λ c o. After b c (across o k)) (λ j. plainly b _ k h) c tt
 plain-step l b c (num n ∷ k) h = absurd h
 plain-step l b c (more n d ∷ k) h = absurd h

@@ -9,7 +9,7 @@ use lib.Dec.{eqb, ltb}
 use Rattle.std.specs.declared.option.Option.{Option}
 use Rattle.std.proofs.shelf.Tests.{cond-both, ltb-true, eqb-true, eqb-false}
 use Rattle.grammar.specs.Phrases.{Phrase, truth, named, prefixed, joined, digits, opening, closing, letter, sign, write, Within, Begins}
-use Rattle.grammar.specs.Machine.{Part, phrase, op, num, more, lit, Move, stop, to, markOf, digit, close, begin, across, move}
+use Rattle.grammar.specs.Machine.{Part, phrase, op, num, more, lit, Move, stop, to, markOf, digit, nameParts, begin, across, move}
 use Rattle.grammar.specs.declared.Name.{Name}
 use Rattle.grammar.specs.declared.Name.the-variants.{Fact, Enabled, Taken}
 use Rattle.grammar.specs.declared.Joint.{Joint}
@@ -49,7 +49,7 @@ module _ (l : Name → ℕ) (lim : Limits l) where
   some (lit q ∷ k) = let r = some k in (q ∷ r .0, (q ∷ [], r .0, refl, r .1, refl))
 
   -- the number of a name, what closes it, and the rest
-  names : (a : Name) (k : List Part) (s : List ℕ) → Words l (num a ∷ close a k) s → Words l (phrase ∷ k) (opening a ∷ s)
+  names : (a : Name) (k : List Part) (s : List ℕ) → Words l (nameParts a ++ k) s → Words l (phrase ∷ k) (opening a ∷ s)
   names Fact k s h = let w = h .2 in (112 ∷ h .0, h .1, (named Fact (w .0), w .1, ap (λ z. 112 ∷ z) (w .2 ∙ sym (append-nil (digits (w .0))))), h .3, ap (λ z. 112 ∷ z) (h .4))
   names Enabled k s h = let w = h .2 in (101 ∷ h .0, h .1, (named Enabled (w .0), w .1, ap (λ z. 101 ∷ z) (w .2 ∙ sym (append-nil (digits (w .0))))), h .3, ap (λ z. 101 ∷ z) (h .4))
   names Taken k s h =

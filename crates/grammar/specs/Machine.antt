@@ -1,6 +1,6 @@
 -- Reading a text a byte at a time: what is still to come is a list of parts. Inner contracts cite it, and no promise to a caller does. Assumes nothing.
 use mathlib.Core.Bool.{Bool, true, false, cond, _&&_}
-use mathlib.Core.List.{List, [], _∷_}
+use mathlib.Core.List.{List, [], _∷_, _++_}
 use Prim.Native.Nat.{ℕ, _+_, _-_, _*_}
 use lib.Dec.{eqb, ltb, leb}
 use Rattle.std.specs.declared.option.Option.{Option}
@@ -50,15 +50,15 @@ jointOf c = cond (eqb c 124) (Some Or) (cond (eqb c 38) (Some And) (cond (eqb c 
 abbrev pub digit : ℕ → Bool
 digit c = leb 48 c && ltb c 58
 
--- what closes a name, and then k
-abbrev pub close : Name → List Part → List Part
-close Fact k = k
-close Enabled k = k
-close Taken k = lit 93 ∷ k
+-- what comes behind the byte that opens a name
+abbrev pub nameParts : Name → List Part
+nameParts Fact = num Fact ∷ []
+nameParts Enabled = num Enabled ∷ []
+nameParts Taken = num Taken ∷ lit 93 ∷ []
 
 abbrev pub begin : Mark → List Part → Move
 begin mark-truth k = to k
-begin (mark-name a) k = to (num a ∷ close a k)
+begin (mark-name a) k = to (nameParts a ++ k)
 begin (mark-prefix x) k = to (phrase ∷ k)
 begin mark-pair k = to (phrase ∷ op ∷ phrase ∷ lit 41 ∷ k)
 begin mark-none k = stop

@@ -1,0 +1,4 @@
+pub mod Drafting
+pub mod Steps
+pub mod Forming
+pub mod Whole
