@@ -13,7 +13,7 @@ use Rattle.formula.specs.declared.entry.Entry.{Entry}
 use Rattle.formula.specs.declared.entry.Entry.the-variants.{True, Fact, Enabled, Taken, Not, Or, Next, Until}
 use Rattle.formula.proofs.Stacks.{stack-append, tables-back, stacked, sound-left, sound-last}
 
-some-size : (f : Ltl) → 1 ≤ size f
+pub some-size : (f : Ltl) → 1 ≤ size f
 some-size top = omega arith
 some-size (fact p) = omega arith
 some-size (enabled t) = omega arith

@@ -15,12 +15,19 @@ use crate::spans::span;
 use crate::words::weigh;
 
 impl Formula {
+    // Its entries.
+    pub fn entries(&self) -> &[Entry]
+        ensures { λ r. ⌜ now r ≡ entriesOf (now (self .entry)) ⌝ }
+    {
+        &self.entries[0..self.len]
+    }
+
     // How many entries it has: 1 to 48.
     pub fn len(&self) -> usize
         ensures value { λ r. ⌜ r ≡ length (entriesOf (now (self .entry))) ⌝ }
-        ensures bound { λ r. ⌜ r ≤ 48 ⌝ }
+        ensures bound { λ r. ⌜ 1 ≤ r ⌝ ∗ ⌜ r ≤ 48 ⌝ }
     {
-        self.len
+        self.entries().len()
     }
 
     // Its elementary count k: 0 to 10.
@@ -28,27 +35,29 @@ impl Formula {
         ensures value { λ r. ⌜ r ≡ weight (entriesOf (now (self .entry))) ⌝ }
         ensures bound { λ r. ⌜ r ≤ 10 ⌝ }
     {
-        weigh(&self.entries[0..self.len])
+        weigh(self.entries())
     }
 
     // The entry at a number; none past the end.
     pub fn entry(&self, at: usize) -> Option<Entry>
         ensures { λ r. ⌜ BySome r (length (entriesOf (now (self .entry))) ≤ at) (λ e. (at < length (entriesOf (now (self .entry)))) × (e ≡ getD (entriesOf (now (self .entry))) at True)) ⌝ }
     {
-        if at >= self.len {
+        let entries = self.entries();
+        if at >= entries.len() {
             return None;
         }
-        Some(self.entries[at])
+        Some(entries[at])
     }
 
     // How many entries belong to the formula that ends at an entry; none past the end.
     pub fn span(&self, at: usize) -> Option<usize>
         ensures { λ r. ⌜ BySome r (length (entriesOf (now (self .entry))) ≤ at) (λ n. (at < length (entriesOf (now (self .entry)))) × (n ≡ size (sub (entriesOf (now (self .entry))) at))) ⌝ }
     {
-        if at >= self.len {
+        let entries = self.entries();
+        if at >= entries.len() {
             return None;
         }
-        Some(span(&self.entries[0..self.len], at))
+        Some(span(entries, at))
     }
 
     // What the atom in a word makes of the formula that ends at an entry; none past the end.
@@ -56,10 +65,10 @@ impl Formula {
     pub fn value(&self, at: usize, word: u32) -> Option<bool>
         ensures { λ r. ⌜ BySome r (length (entriesOf (now (self .entry))) ≤ at) (λ b. (at < length (entriesOf (now (self .entry)))) × (b ≡ valueAt (entriesOf (now (self .entry))) at word)) ⌝ }
     {
-        if at >= self.len {
+        let entries = self.entries();
+        if at >= entries.len() {
             return None;
         }
-        let entries = &self.entries[0..self.len];
         let count = weigh(&entries[0..at + 1]);
         Some(evaluate(entries, at, count, word).holds)
     }

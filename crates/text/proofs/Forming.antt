@@ -24,9 +24,10 @@ use Rattle.grammar.specs.declared.Name.the-variants.{Fact as FactName, Enabled 
 use Rattle.grammar.specs.declared.Prefix.{Prefix}
 use Rattle.grammar.specs.declared.Prefix.the-variants.{Not as Bang, Next as Ex, Finally, Globally}
 use Rattle.grammar.proofs.Marks.{mark-84, mark-40, mark-opening, mark-letter}
-use Rattle.text.specs.Spelled.{left, Char, Ended, Took, Failed, Adds, front, rear, between, behind, Named, Written}
+use Rattle.draft.specs.Drafts.{Adds, front, rear, between, behind}
+use Rattle.text.specs.Spelled.{left, Char, Ended, Took, Failed, Named, Written}
 use Rattle.text.specs.declared.reader.Reader.{Reader}
-use Rattle.text.proofs.Drafting.{adds, renamed}
+use Rattle.draft.proofs.Drafting.{adds, renamed}
 use Rattle.text.proofs.Steps.{longer, step, halt, ended}
 
 flat-prefix : (x : Prefix) (p : Phrase) → (front x ++ table (mean p)) ++ rear x ≡ table (mean (prefixed x p))
@@ -48,14 +49,14 @@ unclosed {r} {r′} {ys} {s} h = subst (Took ys r r′) (sym (append-nil s)) h
 -- names
 module _ {r r′ : Reader} {n : ℕ} where
   module _ {had has : List Entry} {m q : ℕ} where
-    pub fact-named : q < 32 → Took (num FactName ∷ []) r r′ (digits q) → Adds had n has m (Fact q ∷ []) → m ≡ n + 1 → Named FactName r r′ had n has m
-    fact-named lt h d one = record { number = q; below = lt; took = unclosed h; drafted = d; one = one }
+    pub fact-named : q < 32 → Took (num FactName ∷ []) r r′ (digits q) → Adds had n has m (Fact q ∷ []) → Named FactName r r′ had n has m
+    fact-named lt h d = record { number = q; below = lt; took = unclosed h; drafted = d }
 
-    pub enabled-named : q < 64 → Took (num EnabledName ∷ []) r r′ (digits q) → Adds had n has m (Enabled q ∷ []) → m ≡ n + 1 → Named EnabledName r r′ had n has m
-    enabled-named lt h d one = record { number = q; below = lt; took = unclosed h; drafted = d; one = one }
+    pub enabled-named : q < 64 → Took (num EnabledName ∷ []) r r′ (digits q) → Adds had n has m (Enabled q ∷ []) → Named EnabledName r r′ had n has m
+    enabled-named lt h d = record { number = q; below = lt; took = unclosed h; drafted = d }
 
-    pub taken-named : {r″ : Reader} → q < 64 → Took (num TakenName ∷ []) r r′ (digits q) → Took (lit 93 ∷ []) r′ r″ (93 ∷ []) → Adds had n has m (Taken q ∷ []) → m ≡ n + 1 → Named TakenName r r″ had n has m
-    taken-named {r″} lt h z d one = record {
+    pub taken-named : {r″ : Reader} → q < 64 → Took (num TakenName ∷ []) r r′ (digits q) → Took (lit 93 ∷ []) r′ r″ (93 ∷ []) → Adds had n has m (Taken q ∷ []) → Named TakenName r r″ had n has m
+    taken-named {r″} lt h z d = record {
       number = q;
       below = lt;
       took = record {
@@ -64,7 +65,6 @@ module _ {r r′ : Reader} {n : ℕ} where
         goes = λ k. h .goes (lit 93 ∷ k) ∙ z .goes k;
       };
       drafted = d;
-      one = one;
     }
 
 -- no character that begins a phrase
@@ -111,13 +111,12 @@ module _ {r r1 : Reader} where
       fails-shut y j k = opens h k ∙ w .goes (op ∷ phrase ∷ lit 41 ∷ k) ∙ z .goes (phrase ∷ lit 41 ∷ k) ∙ y .goes (lit 41 ∷ k) ∙ j k
 
   module _ {had : List Entry} {n : ℕ} where
-    pub is-truth : {has : List Entry} {m : ℕ} → Char r r1 84 → Adds had n has m (True ∷ []) → m ≤ n + 4 → Written r r1 had n has m
-    is-truth h d c = record {
+    pub is-truth : {has : List Entry} {m : ℕ} → Char r r1 84 → Adds had n has m (True ∷ []) → Written r r1 had n has m
+    is-truth h d = record {
       says = truth;
       fine = tt;
       took = record { text = h .text; less = omega (arith, longer h); goes = λ k. step h (phrase ∷ k) k (ap (λ m. begin m k) mark-84) };
       drafted = d;
-      room = omega (arith, longer h);
     }
 
     pub is-name : {r2 : Reader} {has : List Entry} {m : ℕ} (a : Name) → Char r r1 (opening a) → Named a r1 r2 had n has m → Written r r2 had n has m
@@ -130,11 +129,10 @@ module _ {r r1 : Reader} where
         goes = λ k. names a h k ∙ w .took .goes k;
       };
       drafted = w .drafted;
-      room = omega (arith, longer h, w .took .less, w .one);
     }
 
-    pub is-prefix : {r2 : Reader} {one mid has : List Entry} {m i o : ℕ} (x : Prefix) → Char r r1 (letter x) → Adds had n one m (front x) → Written r1 r2 one m mid i → Adds mid i has o (rear x) → m + o ≤ n + i + 4 → Written r r2 had n has o
-    is-prefix x h a w d c = record {
+    pub is-prefix : {r2 : Reader} {one mid has : List Entry} {m i o : ℕ} (x : Prefix) → Char r r1 (letter x) → Adds had n one m (front x) → Written r1 r2 one m mid i → Adds mid i has o (rear x) → Written r r2 had n has o
+    is-prefix x h a w d = record {
       says = prefixed x (w .says);
       fine = w .fine;
       took = record {
@@ -143,11 +141,10 @@ module _ {r r1 : Reader} where
         goes = λ k. prefixes x h k ∙ w .took .goes k;
       };
       drafted = renamed (flat-prefix x (w .says)) (adds (adds a (w .drafted)) d);
-      room = omega (arith, longer h, w .room);
     }
 
-    pub is-two : {r2 r3 r4 r5 : Reader} {d1 d2 d3 has : List Entry} {n1 n2 n3 m : ℕ} (j : Joint) → Char r r1 40 → Written r1 r2 had n d1 n1 → Took (op ∷ []) r2 r3 (sign j ∷ []) → Adds d1 n1 d2 n2 (between j) → Written r3 r4 d2 n2 d3 n3 → Took (lit 41 ∷ []) r4 r5 (41 ∷ []) → Adds d3 n3 has m (behind j) → n2 + m ≤ n1 + n3 + 4 → Written r r5 had n has m
-    is-two {r5 = r5} j h w z d v y d′ c = record {
+    pub is-two : {r2 r3 r4 r5 : Reader} {d1 d2 d3 has : List Entry} {n1 n2 n3 m : ℕ} (j : Joint) → Char r r1 40 → Written r1 r2 had n d1 n1 → Took (op ∷ []) r2 r3 (sign j ∷ []) → Adds d1 n1 d2 n2 (between j) → Written r3 r4 d2 n2 d3 n3 → Took (lit 41 ∷ []) r4 r5 (41 ∷ []) → Adds d3 n3 has m (behind j) → Written r r5 had n has m
+    is-two {r5 = r5} j h w z d v y d′ = record {
       says = joined j (w .says) (v .says);
       fine = (w .fine, v .fine);
       took = record {
@@ -158,7 +155,6 @@ module _ {r r1 : Reader} where
         goes = λ k. opens h k ∙ w .took .goes (op ∷ phrase ∷ lit 41 ∷ k) ∙ z .goes (phrase ∷ lit 41 ∷ k) ∙ v .took .goes (lit 41 ∷ k) ∙ y .goes k;
       };
       drafted = renamed (flat-joint j (w .says) (v .says)) (adds (adds (adds (w .drafted) d) (v .drafted)) d′);
-      room = omega (arith, longer h, w .room, z .less, v .room, y .less);
     }
       where
         shape : (q : ℕ) (s w v : List ℕ) → s ++ q ∷ (w ++ 41 ∷ v) ≡ (s ++ q ∷ w ++ 41 ∷ []) ++ v

@@ -1,4 +1,3 @@
-pub mod Drafting
 pub mod Steps
 pub mod Forming
 pub mod Whole

@@ -6,6 +6,7 @@ use Prim.Native.Nat.{ℕ, _+_, _-_, _<_, _≤_}
 use native.Mathlib.Nat.{sub-zero}
 use native.Mathlib.Omega.{arith}
 use lib.ListN.{length, take}
+use Rattle.draft.specs.Drafts.{Drafted}
 use Rattle.formula.specs.Ltl.{Ltl, top, fact, enabled, taken, neg, or, next, until}
 use Rattle.formula.specs.Stack.{inRange, tree}
 use Rattle.formula.specs.Table.{table, ranged, weight}
@@ -33,9 +34,9 @@ use Rattle.std.specs.Results.{Cases}
 use Rattle.std.specs.declared.result.Result.{Result}
 use Rattle.std.specs.declared.result.Result.the-variants.{Ok, Err}
 use Rattle.std.proofs.shelf.Tests.{and-parts, and-from, lt-ltb}
-use Rattle.text.specs.Spelled.{left, Drafted, Written, Tells}
+use Rattle.text.specs.Spelled.{left, Written, Tells}
 use Rattle.text.specs.declared.reader.Reader.{Reader}
-use Rattle.text.proofs.Drafting.{kept, none-yet}
+use Rattle.draft.proofs.Drafting.{kept-all, known, more}
 
 pub refused : (xs : List ℕ) (e : Fault) (r : Refusal) → Sized xs → outcome (phrase ∷ []) 0 xs ≡ not e → Tells r e (length xs) → Refused xs r
 refused xs (Byte i) r s h g = let q = wrong-says xs i h in by-byte s i (q .0) (q .1) (q .2) g
@@ -90,7 +91,7 @@ mean-in-range (joined And p q) h = neg-in-range (or (neg (mean p)) (neg (mean q)
 mean-in-range (joined Implies p q) h = two-in-range (neg (mean p)) (mean q) Or refl (neg-in-range (mean p) (mean-in-range p (h .0))) (mean-in-range q (h .1))
 mean-in-range (joined Till p q) h = two-in-range (mean p) (mean q) Until refl (mean-in-range p (h .0)) (mean-in-range q (h .1))
 
-module _ {r r′ : Reader} {had has : List Entry} {m : ℕ} (w : Written r r′ had 0 has m) (end : left r′ ≡ []) where
+module _ {r r′ : Reader} {had has : List Entry} {n m : ℕ} (w : Written r r′ had n has m) (end : left r′ ≡ []) (none : Drafted had n []) where
   pub is : Is strict (left r)
   is = record {
     phrase = w .says;
@@ -99,15 +100,15 @@ module _ {r r′ : Reader} {had has : List Entry} {m : ℕ} (w : Written r r′ 
   }
 
   all : Drafted has m (table (mean (w .says)))
-  all = w .drafted [] (none-yet had)
+  all = w .drafted [] none
 
   pub too-many : {e : Refusal} → Sized (left r) → 48 < m → Gives e 25 Text 0 → Refused (left r) e
   unfolding is
-  too-many s h g = by-table s is (λ k. omega (arith, all .long, k .0)) g
+  too-many s h g = by-table s is (λ k. omega (arith, more all h, k .0)) g
 
   module _ (full : length has ≡ 48) (few : m ≤ 48) where
     table-is : take m has ≡ table (mean (w .says))
-    table-is = kept has m (table (mean (w .says))) all full few
+    table-is = kept-all has m (table (mean (w .says))) all full few
 
     pub too-heavy : {e : Refusal} → Sized (left r) → 10 < weight (take m has) → Gives e 25 Text 0 → Refused (left r) e
     unfolding is
@@ -115,7 +116,7 @@ module _ {r r′ : Reader} {had has : List Entry} {m : ℕ} (w : Written r r′ 
 
     pub granted : Sized (left r) → weight (take m has) ≤ 10 → Granted (left r) (take m has)
     unfolding is
-    granted s h = record { sized = s; says = is; table-is = sym table-is; small = (omega (arith, all .long, ap length table-is), h) }
+    granted s h = record { sized = s; says = is; table-is = sym table-is; small = (omega (arith, known all few, ap length table-is), h) }
 
     pub one-whole : table (tree (take m has)) ≡ take m has
     one-whole = ap (λ es. table (tree es)) table-is ∙ ap table (tree-back (mean (w .says))) ∙ sym table-is

@@ -1,20 +1,16 @@
--- What a reader has read, and what a draft has been given. Inner contracts cite it. Assumes nothing.
+-- What a reader has read. Inner contracts cite it, and no promise to a caller does. Assumes nothing.
 use mathlib.Core.Path.{_≡_}
 use mathlib.Core.List.{List, [], _∷_, _++_}
-use Prim.Native.Nat.{ℕ, _+_, _*_, _<_, _≤_}
-use lib.ListN.{length, drop, getD}
+use Prim.Native.Nat.{ℕ, _+_, _<_}
+use lib.ListN.{length, drop}
+use Rattle.draft.specs.Drafts.{Adds}
 use Rattle.formula.specs.Table.{table}
 use Rattle.formula.specs.declared.entry.Entry.{Entry}
-use Rattle.formula.specs.declared.entry.Entry.the-variants.{True, Not, Or, Next, Until}
 use Rattle.grammar.specs.Machine.{Part, phrase, nameParts, outcome, not}
 use Rattle.grammar.specs.Phrases.{Phrase, digits, closing, naming, write, mean, Within, strict}
 use Rattle.grammar.specs.declared.Fault.{Fault}
 use Rattle.grammar.specs.declared.Fault.the-variants.{Byte, End, Number}
-use Rattle.grammar.specs.declared.Joint.{Joint}
-use Rattle.grammar.specs.declared.Joint.the-variants.{Or as Bar, And, Implies, Until as Till}
 use Rattle.grammar.specs.declared.Name.{Name}
-use Rattle.grammar.specs.declared.Prefix.{Prefix}
-use Rattle.grammar.specs.declared.Prefix.the-variants.{Not as Bang, Next as Ex, Finally, Globally}
 use Rattle.refusal.specs.Causes.{Gives}
 use Rattle.refusal.specs.declared.Layer.the-variants.{Text}
 use Rattle.refusal.specs.declared.Refusal.{Refusal}
@@ -44,56 +40,19 @@ pub record Took (ys : List Part) (r r′ : Reader) (s : List ℕ) : Type 0 where
 abbrev pub Failed : List Part → Reader → Fault → Type 0
 Failed ys r e = (k : List Part) → outcome (ys ++ k) (r .at) (left r) ≡ not e
 
--- a draft of the entries es: all counted, the first 48 kept
-pub record Drafted (kept : List Entry) (count : ℕ) (es : List Entry) : Type 0 where
-  pub long : count ≡ length es
-  pub each : (i : ℕ) → i < 48 → i < length es → getD kept i True ≡ getD es i True
-
--- entries that stand behind those that stood there
-abbrev pub Adds : List Entry → ℕ → List Entry → ℕ → List Entry → Type 0
-Adds had n has m new = (es : List Entry) → Drafted had n es → Drafted has m (es ++ new)
-
--- the entries before the part of a prefix, and those behind it
-abbrev pub front : Prefix → List Entry
-front Bang = []
-front Ex = []
-front Finally = True ∷ []
-front Globally = True ∷ []
-
-abbrev pub rear : Prefix → List Entry
-rear Bang = Not ∷ []
-rear Ex = Next ∷ []
-rear Finally = Until ∷ []
-rear Globally = Not ∷ Until ∷ Not ∷ []
-
--- the entries between the parts of a phrase of two, and those behind them
-abbrev pub between : Joint → List Entry
-between Bar = []
-between And = Not ∷ []
-between Implies = Not ∷ []
-between Till = []
-
-abbrev pub behind : Joint → List Entry
-behind Bar = Or ∷ []
-behind And = Not ∷ Or ∷ Not ∷ []
-behind Implies = Or ∷ []
-behind Till = Until ∷ []
-
 -- behind the byte that opens it, a name has been read, and its entry has been added
 pub record Named (a : Name) (r r′ : Reader) (had : List Entry) (n : ℕ) (has : List Entry) (m : ℕ) : Type 0 where
   pub number : ℕ
   pub below : number < strict a
   pub took : Took (nameParts a) r r′ (digits number ++ closing a)
   pub drafted : Adds had n has m (table (naming a number))
-  pub one : m ≡ n + 1
 
--- a phrase has been read, and its entries have been added, at most four for each byte
+-- a phrase has been read, and its entries have been added
 pub record Written (r r′ : Reader) (had : List Entry) (n : ℕ) (has : List Entry) (m : ℕ) : Type 0 where
   pub says : Phrase
   pub fine : Within strict says
   pub took : Took (phrase ∷ []) r r′ (write says)
   pub drafted : Adds had n has m (table (mean says))
-  pub room : m + 4 * length (left r′) ≤ n + 4 * length (left r)
 
 -- the refusal for a fault in a text of n bytes
 abbrev pub Tells : Refusal → Fault → ℕ → Type 0

@@ -1,12 +1,10 @@
 // Phrases of a text, whose entries go to a draft.
 ghost use mathlib.Core.List.{[], _∷_};
-ghost use Prim.Native.Nat.{_+_, _*_, _<_, _^_};
-ghost use lib.ListN.{length};
 ghost use Rattle.grammar.specs.Machine.{phrase, nameParts};
 ghost use Rattle.std.specs.Results.{Cases};
-ghost use Rattle.text.specs.Spelled.{left, Named, Written, Failed};
-use crate::draft::Draft;
+ghost use Rattle.text.specs.Spelled.{Named, Written, Failed};
 use crate::reader::Reader;
+use draft::draft::Draft;
 use formula::entry::Entry;
 use grammar::Fault;
 use grammar::Name;
@@ -15,7 +13,6 @@ use grammar::Prefix;
 impl Reader<'_> {
     // The number of a name, and what closes it.
     fn named(&mut self, name: Name, out: &mut Draft) -> Result<(), Fault>
-        requires room { ⌜ now out .count < 2 ^ 63 ⌝ }
         ensures { λ r. ⌜ Cases r (λ _. Named name (now (self .entry)) (now (self .exit)) (now (out .entry) .entries) (now (out .entry) .count) (now (out .exit) .entries) (now (out .exit) .count)) (λ e. Failed (nameParts name) (now (self .entry)) e) ⌝ }
     {
         let n = self.number(name)?;
@@ -31,8 +28,7 @@ impl Reader<'_> {
     }
 
     // One phrase. Its first letter decides what follows.
-    pub(crate) fn sentence(&mut self, out: &mut Draft) -> Result<(), Fault>
-        requires room { ⌜ now out .count + 4 * length (left (now self)) < 2 ^ 63 ⌝ }
+    pub(crate) fn phrase(&mut self, out: &mut Draft) -> Result<(), Fault>
         ensures { λ r. ⌜ Cases r (λ _. Written (now (self .entry)) (now (self .exit)) (now (out .entry) .entries) (now (out .entry) .count) (now (out .exit) .entries) (now (out .exit) .count)) (λ e. Failed (phrase ∷ []) (now (self .entry)) e) ⌝ }
     {
         let place = self.at;
@@ -45,10 +41,10 @@ impl Reader<'_> {
             'e' => return self.named(Name::Enabled, out),
             '[' => return self.named(Name::Taken, out),
             '(' => {
-                self.sentence(out)?;
+                self.phrase(out)?;
                 let joint = self.joint()?;
                 out.add_between(joint);
-                self.sentence(out)?;
+                self.phrase(out)?;
                 self.expect(')')?;
                 out.add_behind(joint);
                 return Ok(());
@@ -60,7 +56,7 @@ impl Reader<'_> {
             _ => return Err(Fault::Byte(place)),
         };
         out.add_front(prefix);
-        self.sentence(out)?;
+        self.phrase(out)?;
         out.add_rear(prefix);
         Ok(())
     }

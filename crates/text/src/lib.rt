@@ -1,6 +1,4 @@
-// Formulas from text. Relies on refusal, formula and grammar.
-pub mod adding;
-pub mod draft;
+// Formulas from text. Relies on refusal, formula, grammar and draft.
 pub mod forms;
 pub mod read;
 pub mod reader;

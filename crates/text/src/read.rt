@@ -1,8 +1,7 @@
 // Formulas from text, or the refusal of the first rule that it breaks.
 ghost use mathlib.Core.List.{[], _∷_};
 ghost use mathlib.Core.Path.{_≡_};
-ghost use Prim.Native.Nat.{ℕ, _+_, _*_, _<_, _^_};
-ghost use lib.ListN.{length};
+ghost use Prim.Native.Nat.{ℕ};
 ghost use Rattle.formula.specs.View.{entriesOf};
 ghost use Rattle.grammar.specs.Machine.{phrase, outcome, not};
 ghost use Rattle.grammar.specs.Phrases.{OneReading};
@@ -13,9 +12,8 @@ ghost use Rattle.refusal.specs.declared.Refusal.{Refusal as Given};
 ghost use Rattle.std.specs.Results.{Cases};
 ghost use Rattle.std.specs.declared.result.Result.the-variants.{Err};
 ghost use Rattle.text.specs.Spelled.{left, Written, Tells};
-use crate::draft::Draft;
 use crate::reader::Reader;
-use formula::entry::Entry;
+use draft::draft::Draft;
 use formula::formula::Formula;
 use formula::words::weigh;
 use grammar::Fault;
@@ -36,10 +34,9 @@ fn refusal_of(fault: Fault, len: usize) -> Refusal
 impl Reader<'_> {
     // One phrase, and nothing behind it.
     fn whole(&mut self, out: &mut Draft) -> Result<(), Fault>
-        requires room { ⌜ now out .count + 4 * length (left (now self)) < 2 ^ 63 ⌝ }
         ensures { λ r. ⌜ Cases r (λ _. Written (now (self .entry)) (now (self .exit)) (now (out .entry) .entries) (now (out .entry) .count) (now (out .exit) .entries) (now (out .exit) .count) × (left (now (self .exit)) ≡ [])) (λ e. outcome (phrase ∷ []) (now (self .entry) .at) (left (now (self .entry))) ≡ not e) ⌝ }
     {
-        self.sentence(out)?;
+        self.phrase(out)?;
         if self.at < self.text.len() {
             return Err(Fault::Byte(self.at));
         }
@@ -58,10 +55,7 @@ pub fn from_text(text: &[u8]) -> Result<Formula, Refusal>
         return Err(Cause::TextLength.at(0));
     }
     let mut reader = Reader { text, at: 0 };
-    let mut out = Draft {
-        entries: [Entry::True; 48],
-        count: 0,
-    };
+    let mut out = Draft::new();
     if let Err(fault) = reader.whole(&mut out) {
         return Err(refusal_of(fault, text.len()));
     }

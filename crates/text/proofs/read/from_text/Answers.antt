@@ -25,12 +25,12 @@ returns-then-out-gt48 c =
     let q = c .in-rest .ensures tt in
     elim (c .then-out-gt48 .came) [
       | then-out-gt48·by·then-out-gt48 w ↦
-          let a = answered-no (c .args .text .now) (c .at-then-out-gt48 .result) (too-many (q .0) (q .1) s (w .if-out-gt48 .taken) (c .at-then-out-gt48 .ensures)) in
+          let a = answered-no (c .args .text .now) (c .at-then-out-gt48 .result) (too-many (q .0) (q .1) (c .new-out .ensures) s (w .if-out-gt48 .taken) (c .at-then-out-gt48 .ensures)) in
           record { answer = a .answer; only = a .only; reading = a .reading; number = a .number }
       | then-out-gt48·by·else-out-gt48·then-weigh-gt10 w ↦
           let few = w .if-out-gt48 .left in
           let full = c .whole .last .out .full in
-          let a = answered-no (c .args .text .now) (c .at-then-out-gt48 .result) (too-heavy (q .0) (q .1) full few s (omega (arith, w .if-weigh-gt10 .taken, weighed (q .0) (q .1) full few (w .weigh .ensures))) (c .at-then-out-gt48 .ensures)) in
+          let a = answered-no (c .args .text .now) (c .at-then-out-gt48 .result) (too-heavy (q .0) (q .1) (c .new-out .ensures) full few s (omega (arith, w .if-weigh-gt10 .taken, weighed (q .0) (q .1) (c .new-out .ensures) full few (w .weigh .ensures))) (c .at-then-out-gt48 .ensures)) in
           record { answer = a .answer; only = a .only; reading = a .reading; number = a .number }
     ]
 
@@ -43,8 +43,8 @@ ghost-result c =
       (
         few,
         (
-          one-whole (q .0) (q .1) full few,
-          (all-in-range (q .0) (q .1) full few, (omega (arith, c .if-weigh-gt10 .left, weighed (q .0) (q .1) full few (c .weigh .ensures)), tt)),
+          one-whole (q .0) (q .1) (c .new-out .ensures) full few,
+          (all-in-range (q .0) (q .1) (c .new-out .ensures) full few, (omega (arith, c .if-weigh-gt10 .left, weighed (q .0) (q .1) (c .new-out .ensures) full few (c .weigh .ensures)), tt)),
         ),
       ),
     )
@@ -55,5 +55,5 @@ returns c =
     let q = c .in-rest .ensures tt in
     let few = c .if-out-gt48 .left in
     let full = c .whole .last .out .full in
-    let a = answered-yes (c .args .text .now) _ (granted (q .0) (q .1) full few s (omega (arith, c .if-weigh-gt10 .left, weighed (q .0) (q .1) full few (c .weigh .ensures)))) in
+    let a = answered-yes (c .args .text .now) _ (granted (q .0) (q .1) (c .new-out .ensures) full few s (omega (arith, c .if-weigh-gt10 .left, weighed (q .0) (q .1) (c .new-out .ensures) full few (c .weigh .ensures)))) in
     record { answer = a .answer; only = a .only; reading = a .reading; number = a .number }

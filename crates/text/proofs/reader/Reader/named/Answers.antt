@@ -17,16 +17,16 @@ pub returns-in-Fact : need.returns-in-Fact
 returns-in-Fact c =
     let h = at (c .in-Fact .is) (c .in-Continue-n .ensures tt) in
     subst (λ a. Named a (c .args .self .now) (c .number .last .self) (c .args .out .now .entries) (c .args .out .now .count) (c .add .last .self .entries) (c .add .last .self .count)) (sym (c .in-Fact .is))
-    (fact-named (h .0) (h .1) (c .add .ensures .drafted) (c .add .ensures .count))
+    (fact-named (h .0) (h .1) (c .add .ensures))
 
 pub returns-in-Enabled : need.returns-in-Enabled
 returns-in-Enabled c =
     let h = at (c .in-Enabled .is) (c .in-Continue-n .ensures tt) in
     subst (λ a. Named a (c .args .self .now) (c .number .last .self) (c .args .out .now .entries) (c .args .out .now .count) (c .add-in-Enabled .last .self .entries) (c .add-in-Enabled .last .self .count)) (sym (c .in-Enabled .is))
-    (enabled-named (h .0) (h .1) (c .add-in-Enabled .ensures .drafted) (c .add-in-Enabled .ensures .count))
+    (enabled-named (h .0) (h .1) (c .add-in-Enabled .ensures))
 
 pub returns-in-Continue-expect : need.returns-in-Continue-expect
 returns-in-Continue-expect c =
     let h = at (c .in-Taken .is) (c .in-Continue-n .ensures tt) in
     subst (λ a. Named a (c .args .self .now) (c .expect .last .self) (c .args .out .now .entries) (c .args .out .now .count) (c .add-in-Taken .last .self .entries) (c .add-in-Taken .last .self .count)) (sym (c .in-Taken .is))
-    (taken-named (h .0) (h .1) (c .in-Continue-expect .ensures tt) (c .add-in-Taken .ensures .drafted) (c .add-in-Taken .ensures .count))
+    (taken-named (h .0) (h .1) (c .in-Continue-expect .ensures tt) (c .add-in-Taken .ensures))

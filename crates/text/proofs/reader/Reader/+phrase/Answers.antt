@@ -5,11 +5,11 @@ use Rattle.grammar.specs.Phrases.{letter}
 use Rattle.grammar.specs.declared.Name.the-variants.{Fact, Enabled, Taken}
 use Rattle.text.proofs.Steps.{letter-is}
 use Rattle.text.proofs.Forming.{none-begins, fails-first, fails-one, fails-op, fails-two, fails-shut, fails-prefix, is-truth, is-prefix, is-two, name-cases}
-use Rattle.text.proofs.reader.Reader.+sentence.Needs as need
-use Rattle.text.proofs.reader.Reader.+sentence.Needs.{in-33, in-X, in-F, in-G}
+use Rattle.text.proofs.reader.Reader.+phrase.Needs as need
+use Rattle.text.proofs.reader.Reader.+phrase.Needs.{in-33, in-X, in-F, in-G}
 
 pub returns-in-T : need.returns-in-T
-returns-in-T t c = is-truth (letter-is (c .in-T .is) (c .in-Continue-next .ensures tt)) (c .add .ensures .drafted) (omega (arith, c .add .ensures .count))
+returns-in-T t c = is-truth (letter-is (c .in-T .is) (c .in-Continue-next .ensures tt)) (c .add .ensures)
 
 pub returns-in-p : need.returns-in-p
 returns-in-p t c = name-cases (c .args .self .now) (c .next .last .self) (c .named .last .self) (c .args .out .now .entries) (c .args .out .now .count) (c .named .last .out .entries) (c .named .last .out .count) (c .named .result) Fact (letter-is (c .in-p .is) (c .in-Continue-next .ensures tt)) (c .named .ensures)
@@ -20,27 +20,27 @@ returns-in-e t c = name-cases (c .args .self .now) (c .next .last .self) (c .nam
 pub returns-in-91 : need.returns-in-91
 returns-in-91 t c = name-cases (c .args .self .now) (c .next .last .self) (c .named-in-91 .last .self) (c .args .out .now .entries) (c .args .out .now .count) (c .named-in-91 .last .out .entries) (c .named-in-91 .last .out .count) (c .named-in-91 .result) Taken (letter-is (c .in-91 .is) (c .in-Continue-next .ensures tt)) (c .named-in-91 .ensures)
 
-pub returns-in-Break-sentence : need.returns-in-Break-sentence
-returns-in-Break-sentence t c = let q = err-from-errBy (c .from-residual-in-Break-sentence .result) (c .from-residual-in-Break-sentence .ensures .1) in rw (q .1, q .2) (fails-one (letter-is (c .in-40 .is) (c .in-Continue-next .ensures tt)) (c .in-Break-sentence .ensures tt))
+pub returns-in-Break-phrase : need.returns-in-Break-phrase
+returns-in-Break-phrase t c = let q = err-from-errBy (c .from-residual-in-Break-phrase .result) (c .from-residual-in-Break-phrase .ensures .1) in rw (q .1, q .2) (fails-one (letter-is (c .in-40 .is) (c .in-Continue-next .ensures tt)) (c .in-Break-phrase .ensures tt))
 
 pub returns-in-Break-joint : need.returns-in-Break-joint
-returns-in-Break-joint t c = let q = err-from-errBy (c .from-residual-in-Break-joint .result) (c .from-residual-in-Break-joint .ensures .1) in rw (q .1, q .2) (fails-op (letter-is (c .in-40 .is) (c .in-Continue-next .ensures tt)) ((c .in-Continue-sentence .ensures tt) .took) (c .in-Break-joint .ensures tt))
+returns-in-Break-joint t c = let q = err-from-errBy (c .from-residual-in-Break-joint .result) (c .from-residual-in-Break-joint .ensures .1) in rw (q .1, q .2) (fails-op (letter-is (c .in-40 .is) (c .in-Continue-next .ensures tt)) ((c .in-Continue-phrase .ensures tt) .took) (c .in-Break-joint .ensures tt))
 
-pub returns-in-Break-sentence-2 : need.returns-in-Break-sentence-2
-returns-in-Break-sentence-2 t c = let q = err-from-errBy (c .from-residual-in-Break-sentence-2 .result) (c .from-residual-in-Break-sentence-2 .ensures .1) in rw (q .1, q .2) (fails-two (letter-is (c .in-40 .is) (c .in-Continue-next .ensures tt)) ((c .in-Continue-sentence .ensures tt) .took) (c .in-Continue-joint .ensures tt) (c .in-Break-sentence-2 .ensures tt))
+pub returns-in-Break-phrase-2 : need.returns-in-Break-phrase-2
+returns-in-Break-phrase-2 t c = let q = err-from-errBy (c .from-residual-in-Break-phrase-2 .result) (c .from-residual-in-Break-phrase-2 .ensures .1) in rw (q .1, q .2) (fails-two (letter-is (c .in-40 .is) (c .in-Continue-next .ensures tt)) ((c .in-Continue-phrase .ensures tt) .took) (c .in-Continue-joint .ensures tt) (c .in-Break-phrase-2 .ensures tt))
 
 pub returns-in-Break-expect : need.returns-in-Break-expect
-returns-in-Break-expect t c = let q = err-from-errBy (c .from-residual-in-Break-expect .result) (c .from-residual-in-Break-expect .ensures .1) in rw (q .1, q .2) (fails-shut (letter-is (c .in-40 .is) (c .in-Continue-next .ensures tt)) ((c .in-Continue-sentence .ensures tt) .took) (c .in-Continue-joint .ensures tt) ((c .in-Continue-sentence-2 .ensures tt) .took) (c .in-Break-expect .ensures tt))
+returns-in-Break-expect t c = let q = err-from-errBy (c .from-residual-in-Break-expect .result) (c .from-residual-in-Break-expect .ensures .1) in rw (q .1, q .2) (fails-shut (letter-is (c .in-40 .is) (c .in-Continue-next .ensures tt)) ((c .in-Continue-phrase .ensures tt) .took) (c .in-Continue-joint .ensures tt) ((c .in-Continue-phrase-2 .ensures tt) .took) (c .in-Break-expect .ensures tt))
 
 pub returns-in-40 : need.returns-in-40
-returns-in-40 t c = is-two (c .in-Continue-joint .joint) (letter-is (c .in-40 .is) (c .in-Continue-next .ensures tt)) (c .in-Continue-sentence .ensures tt) (c .in-Continue-joint .ensures tt) (c .add-between .ensures .drafted) (c .in-Continue-sentence-2 .ensures tt) (c .in-Continue-expect .ensures tt) (c .add-behind .ensures .drafted) (omega (arith, c .add-between .ensures .count, c .add-behind .ensures .count))
+returns-in-40 t c = is-two (c .in-Continue-joint .joint) (letter-is (c .in-40 .is) (c .in-Continue-next .ensures tt)) (c .in-Continue-phrase .ensures tt) (c .in-Continue-joint .ensures tt) (c .add-between .ensures) (c .in-Continue-phrase-2 .ensures tt) (c .in-Continue-expect .ensures tt) (c .add-behind .ensures)
 
 pub returns-in-rest : need.returns-in-rest
 returns-in-rest t c = fails-first (c .in-Continue-next .ensures tt) (none-begins (c .in-Continue-next .field-0) (λ eq. omega arith) (λ eq. omega arith) (λ eq. omega arith) (λ eq. omega arith) (λ eq. omega arith) (λ eq. omega arith) (λ eq. omega arith) (λ eq. omega arith) (λ eq. omega arith))
 
-pub returns-in-Break-sentence-3 : need.returns-in-Break-sentence-3
-returns-in-Break-sentence-3 t c =
-    let q = err-from-errBy (c .from-residual-in-Break-sentence-3 .result) (c .from-residual-in-Break-sentence-3 .ensures .1) in
+pub returns-in-Break-phrase-3 : need.returns-in-Break-phrase-3
+returns-in-Break-phrase-3 t c =
+    let q = err-from-errBy (c .from-residual-in-Break-phrase-3 .result) (c .from-residual-in-Break-phrase-3 .ensures .1) in
     let x = c .match-branch-2 .prefix in
     let at : c .in-Continue-next .field-0 ≡ letter x =
     elim (c .match-branch-2 .came) [
@@ -49,7 +49,7 @@ returns-in-Break-sentence-3 t c =
       | in-F w ↦ w .in-F .is ∙ ap letter (sym (w .prefix-is))
       | in-G w ↦ w .in-G .is ∙ ap letter (sym (w .prefix-is))
     ] in
-    rw (q .1, q .2) (fails-prefix x (letter-is at (c .in-Continue-next .ensures tt)) (c .in-Break-sentence-3 .ensures tt))
+    rw (q .1, q .2) (fails-prefix x (letter-is at (c .in-Continue-next .ensures tt)) (c .in-Break-phrase-3 .ensures tt))
 
 pub returns : need.returns
 returns t c =
@@ -61,4 +61,4 @@ returns t c =
       | in-F w ↦ w .in-F .is ∙ ap letter (sym (w .prefix-is))
       | in-G w ↦ w .in-G .is ∙ ap letter (sym (w .prefix-is))
     ] in
-    is-prefix x (letter-is at (c .in-Continue-next .ensures tt)) (c .add-front .ensures .drafted) (c .in-Continue-sentence-3 .ensures tt) (c .add-rear .ensures .drafted) (omega (arith, c .add-front .ensures .count, c .add-rear .ensures .count))
+    is-prefix x (letter-is at (c .in-Continue-next .ensures tt)) (c .add-front .ensures) (c .in-Continue-phrase-3 .ensures tt) (c .add-rear .ensures)
