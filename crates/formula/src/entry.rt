@@ -5,7 +5,7 @@ ghost use Rattle.std.specs.Options.{Cases as BySome};
 ghost use Rattle.formula.specs.Table.{arity, elementary};
 ghost use Rattle.formula.specs.Words.{kindOf, argumentOf, Spells};
 
-#[derive(Clone, Copy, PartialEq, Debug)]
+#[derive(Clone, Copy)]
 pub enum Entry {
     True,
     // a fact of the state, by its number

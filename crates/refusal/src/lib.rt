@@ -5,14 +5,14 @@ ghost use mathlib.Core.Path.{_≡_};
 ghost use Rattle.refusal.specs.Causes.{numberOf, layerOf, Gives};
 
 // Which part of the checker refuses.
-#[derive(Clone, Copy, PartialEq, Debug)]
+#[derive(Clone, Copy)]
 pub enum Layer {
     Formula,
     Text,
 }
 
 // The rule that a call breaks.
-#[derive(Clone, Copy, PartialEq, Debug)]
+#[derive(Clone, Copy)]
 pub enum Cause {
     // a formula's table
     TableLength,
@@ -28,7 +28,7 @@ pub enum Cause {
 }
 
 // A cause, and the place that the rule names: 0 where it names none.
-#[derive(Clone, Copy, PartialEq, Debug)]
+#[derive(Clone, Copy)]
 pub struct Refusal {
     pub cause: Cause,
     pub place: usize,
