@@ -1,5 +1,6 @@
--- A line is cut in one way alone. Assumes nothing.
+-- Bytes are cut in one way alone. Assumes nothing.
 use mathlib.Core.Path.{_≡_, refl, sym, ap, subst, _∙_}
+use mathlib.Core.Logic.{_⊎_, inl, inr}
 use mathlib.Core.List.{List, [], _∷_, _++_, append-assoc}
 use Prim.Native.Nat.{ℕ, suc, _-_, _<_, _≤_}
 use native.Mathlib.Omega.{arith}
@@ -7,29 +8,55 @@ use lib.ListN.{length, getD, take, drop, take-append-drop, length-append}
 use lib.Seq.{getD-take, length-take-le}
 use Rattle.std.proofs.shelf.Elements.{all-from-getD, all-push}
 use Rattle.std.proofs.shelf.Lists.{take-all}
-use Rattle.script.specs.Words.{Blank, Solid, Dark, Behind, Skips, Opens, First}
+use Rattle.script.specs.Words.{Blank, Without, Dark, Behind, Skips, Cut, First}
 
 -- a list with a first element is not empty
 pub some-none : {b : ℕ} {bs : List ℕ} → b ∷ bs ≡ [] → ⊥
 some-none e = let z : _≡_ {A = ℕ} 0 1 = cc in omega arith
 
--- what comes behind a word is one list
-same-behind : (x p q : List ℕ) → Behind x p → Behind x q → p ≡ q
-same-behind [] p q a b = a ∙ sym b
-same-behind (c ∷ x) p q a b = a .1 ∙ sym (b .1)
+module _ (z : ℕ) where
+  -- what comes behind the first z is one list
+  same-behind : (x p q : List ℕ) → Behind z x p → Behind z x q → p ≡ q
+  same-behind [] p q a b = a ∙ sym b
+  same-behind (c ∷ x) p q a b = a .1 ∙ sym (b .1)
 
--- two words at the front of one list are the same
-same-front : (u v x y p q : List ℕ) → Solid u → Solid v → Behind x p → Behind y q → u ++ x ≡ v ++ y → (u ≡ v) × (p ≡ q)
-same-front [] [] x y p q su sv bx by e = (refl, same-behind y p q (subst (λ l. Behind l p) e bx) by)
-same-front [] (c ∷ v) [] y p q su sv bx by e = absurd (some-none (sym e))
-same-front [] (c ∷ v) (b ∷ x) y p q su sv bx by e = absurd (sv .0 (let h : c ≡ b = cc in h ∙ bx .0))
-same-front (b ∷ u) [] x [] p q su sv bx by e = absurd (some-none e)
-same-front (b ∷ u) [] x (c ∷ y) p q su sv bx by e = absurd (su .0 (let h : b ≡ c = cc in h ∙ by .0))
-same-front (b ∷ u) (c ∷ v) x y p q su sv bx by e =
-    let heads : b ≡ c = cc in
-    let tails : u ++ x ≡ v ++ y = cc in
-    let more = same-front u v x y p q (su .1) (sv .1) bx by tails in
-    ((λ i. heads i ∷ more .0 i), more .1)
+  -- two fronts of one list that both end at its first z are the same
+  same-front : (u v x y p q : List ℕ) → Without z u → Without z v → Behind z x p → Behind z y q → u ++ x ≡ v ++ y → (u ≡ v) × (p ≡ q)
+  same-front [] [] x y p q fu fv bx by e = (refl, same-behind y p q (subst (λ l. Behind z l p) e bx) by)
+  same-front [] (c ∷ v) [] y p q fu fv bx by e = absurd (some-none (sym e))
+  same-front [] (c ∷ v) (b ∷ x) y p q fu fv bx by e = absurd (fv .0 (let h : c ≡ b = cc in h ∙ bx .0))
+  same-front (b ∷ u) [] x [] p q fu fv bx by e = absurd (some-none e)
+  same-front (b ∷ u) [] x (c ∷ y) p q fu fv bx by e = absurd (fu .0 (let h : b ≡ c = cc in h ∙ by .0))
+  same-front (b ∷ u) (c ∷ v) x y p q fu fv bx by e =
+      let heads : b ≡ c = cc in
+      let tails : u ++ x ≡ v ++ y = cc in
+      let more = same-front u v x y p q (fu .1) (fv .1) bx by tails in
+      ((λ i. heads i ∷ more .0 i), more .1)
+
+  -- what is behind is no longer
+  behind-length : (x p : List ℕ) → Behind z x p → length p ≤ length x
+  behind-length [] p h = omega (arith, ap length h)
+  behind-length (b ∷ x) p h = omega (arith, ap length (h .1))
+
+pub cut-once : {z : ℕ} {bs u v p q : List ℕ} → Cut z bs u p → Cut z bs v q → (u ≡ v) × (p ≡ q)
+cut-once {z} {bs} {u} {v} {p} {q} a b = same-front z u v (a .tail) (b .tail) p q (a .solid) (b .solid) (a .behind) (b .behind) (sym (a .joined) ∙ b .joined)
+
+-- a cut leaves less, unless there was nothing
+pub cut-length : {z : ℕ} {bs u p : List ℕ} → Cut z bs u p → 0 < length bs → length p < length bs
+cut-length {z} {bs} {u} {p} a some = omega (arith, ap length (a .joined) ∙ length-append u (a .tail), go (a .tail) p (a .behind))
+  where
+    go : (x p : List ℕ) → Behind z x p → (length p < length x) ⊎ (length p ≡ 0)
+    go [] p h = inr (omega (arith, ap length h))
+    go (b ∷ x) p h = inl (omega (arith, ap length (h .1)))
+
+-- a list cut at its first z
+pub cut-at : (z : ℕ) (bs front tail rest : List ℕ) (n : ℕ) → n ≤ length bs → ((k : ℕ) → k < n → getD bs k 0 ≡ z → ⊥) → front ≡ take n bs → tail ≡ drop n bs → Behind z tail rest → Cut z bs front rest
+cut-at z bs front tail rest n within solid before back behind = record {
+  tail = tail;
+  joined = sym ((λ i. before i ++ back i) ∙ take-append-drop n bs);
+  solid = subst (Without z) (sym before) (all-from-getD (λ b. b ≡ z → ⊥) (take n bs) 0 (λ i lt. let less : i < n = omega (arith, length-take-le n bs within) in rw getD-take (solid i less)));
+  behind = behind;
+}
 
 -- behind the spaces at the front of one list comes one list
 same-gap : (g h x y : List ℕ) → Blank g → Blank h → Dark x → Dark y → g ++ x ≡ h ++ y → x ≡ y
@@ -41,17 +68,14 @@ same-gap (b ∷ g) [] x (c ∷ y) bg bh dx dy e = absurd (dy (let k : c ≡ b = 
 same-gap (b ∷ g) (c ∷ h) x y bg bh dx dy e = let tails : g ++ x ≡ h ++ y = cc in same-gap g h x y (bg .1) (bh .1) dx dy tails
 
 pub skips-once : {bs x y : List ℕ} → Skips bs x → Skips bs y → x ≡ y
-skips-once {bs} {x} {y} a b = same-gap (a .gap) (b .gap) x y (a .blank) (b .blank) (a .dark) (b .dark) (sym (a .cut) ∙ b .cut)
-
-pub opens-once : {bs u v p q : List ℕ} → Opens bs u p → Opens bs v q → (u ≡ v) × (p ≡ q)
-opens-once {bs} {u} {v} {p} {q} a b = same-front u v (a .tail) (b .tail) p q (a .solid) (b .solid) (a .behind) (b .behind) (sym (a .cut) ∙ b .cut)
+skips-once {bs} {x} {y} a b = same-gap (a .gap) (b .gap) x y (a .blank) (b .blank) (a .dark) (b .dark) (sym (a .joined) ∙ b .joined)
 
 pub first-once : {bs u v p q : List ℕ} → First bs u p → First bs v q → (u ≡ v) × (p ≡ q)
-first-once {bs} {u} {v} {p} {q} a b = opens-once (a .opens) (subst (λ l. Opens l v q) (sym (skips-once (a .skips) (b .skips))) (b .opens))
+first-once {bs} {u} {v} {p} {q} a b = cut-once (a .ends) (subst (λ l. Cut 32 l v q) (sym (skips-once (a .skips) (b .skips))) (b .ends))
 
 -- spaces alone have nothing behind them
 pub blank-skips : {bs x : List ℕ} → Blank bs → Skips bs x → x ≡ []
-blank-skips {bs} {x} h s = go (s .gap) x (s .dark) (subst Blank (s .cut) h)
+blank-skips {bs} {x} h s = go (s .gap) x (s .dark) (subst Blank (s .joined) h)
   where
     go : (g x : List ℕ) → Dark x → Blank (g ++ x) → x ≡ []
     go [] [] d k = refl
@@ -60,14 +84,14 @@ blank-skips {bs} {x} h s = go (s .gap) x (s .dark) (subst Blank (s .cut) h)
 
 -- where nothing is behind the spaces, there are spaces alone
 pub skips-blank : {bs : List ℕ} → Skips bs [] → Blank bs
-skips-blank {bs} s = subst Blank (sym (s .cut)) (go (s .gap) (s .blank))
+skips-blank {bs} s = subst Blank (sym (s .joined)) (go (s .gap) (s .blank))
   where
     go : (g : List ℕ) → Blank g → Blank (g ++ [])
     go [] k = tt
     go (b ∷ g) k = (k .0, go g (k .1))
 
 pub first-not-blank : {bs u p : List ℕ} → First bs u p → Blank bs → ⊥
-first-not-blank {bs} {u} {p} a h = go u (a .opens .tail) (a .some) (sym (a .opens .cut) ∙ blank-skips h (a .skips))
+first-not-blank {bs} {u} {p} a h = go u (a .ends .tail) (a .some) (sym (a .ends .joined) ∙ blank-skips h (a .skips))
   where
     go : (u x : List ℕ) → 0 < length u → u ++ x ≡ [] → ⊥
     go [] x k e = omega arith
@@ -75,15 +99,11 @@ first-not-blank {bs} {u} {p} a h = go u (a .opens .tail) (a .some) (sym (a .open
 
 -- what is left is no longer
 pub skips-length : {bs x : List ℕ} → Skips bs x → length x ≤ length bs
-skips-length {bs} {x} s = omega (arith, ap length (s .cut) ∙ length-append (s .gap) x)
-
-behind-length : (x p : List ℕ) → Behind x p → length p ≤ length x
-behind-length [] p h = omega (arith, ap length h)
-behind-length (b ∷ x) p h = omega (arith, ap length (h .1))
+skips-length {bs} {x} s = omega (arith, ap length (s .joined) ∙ length-append (s .gap) x)
 
 pub first-length : {bs u p : List ℕ} → First bs u p → length p < length bs
 first-length {bs} {u} {p} a =
-    omega (arith, skips-length (a .skips), ap length (a .opens .cut) ∙ length-append u (a .opens .tail), behind-length (a .opens .tail) p (a .opens .behind), a .some)
+    omega (arith, skips-length (a .skips), ap length (a .ends .joined) ∙ length-append u (a .ends .tail), behind-length 32 (a .ends .tail) p (a .ends .behind), a .some)
 
 -- a list by its first element, and by its first two
 pub by-one : (bs : List ℕ) (b : ℕ) → 0 < length bs → getD bs 0 0 ≡ b → bs ≡ b ∷ take (length bs - 1) (drop 1 bs)
@@ -107,20 +127,11 @@ skip-one {bs} {rest} {after} old e = (
   all-push (λ b. b ≡ 32) (old .0) 32 (old .2) refl,
 )
 
--- a list cut at its first space
-pub opens-at : (bs word tail rest : List ℕ) (n : ℕ) → n ≤ length bs → ((k : ℕ) → k < n → getD bs k 0 ≡ 32 → ⊥) → word ≡ take n bs → tail ≡ drop n bs → Behind tail rest → Opens bs word rest
-opens-at bs word tail rest n within solid front back behind = record {
-  tail = tail;
-  cut = sym ((λ i. front i ++ back i) ∙ take-append-drop n bs);
-  solid = subst Solid (sym front) (all-from-getD (λ b. b ≡ 32 → ⊥) (take n bs) 0 (λ i lt. let less : i < n = omega (arith, length-take-le n bs within) in rw getD-take (solid i less)));
-  behind = behind;
-}
-
 -- a list that begins with no space begins with a word
-pub solid-some : (bs word rest : List ℕ) → 0 < length bs → Dark bs → Opens bs word rest → 0 < length word
-solid-some bs word rest some dark a = go bs word (a .tail) some dark (a .cut) (a .behind)
+pub solid-some : (bs word rest : List ℕ) → 0 < length bs → Dark bs → Cut 32 bs word rest → 0 < length word
+solid-some bs word rest some dark a = go bs word (a .tail) some dark (a .joined) (a .behind)
   where
-    go : (bs word tail : List ℕ) → 0 < length bs → Dark bs → bs ≡ word ++ tail → Behind tail rest → 0 < length word
+    go : (bs word tail : List ℕ) → 0 < length bs → Dark bs → bs ≡ word ++ tail → Behind 32 tail rest → 0 < length word
     go [] word tail some dark e h = absurd (omega arith)
     go (b ∷ bs) [] [] some dark e h = absurd (some-none e)
     go (b ∷ bs) [] (c ∷ tail) some dark e h = absurd (dark (let k : b ≡ c = cc in k ∙ h .0))

@@ -9,9 +9,9 @@ use lib.ListN.{length, getD}
 use Rattle.std.specs.shelf.Text.{sameBytes}
 use Rattle.script.specs.declared.calls.Word.{Word}
 use Rattle.script.specs.declared.calls.Word.the-variants.{Formula, Text, Hex, Help}
-use Rattle.script.specs.Words.{Opens}
+use Rattle.script.specs.Words.{Cut}
 use Rattle.script.specs.Says.{spelled, every, Meaning, formula, text, help, Given, Says, Skipped, Plain}
-use Rattle.script.proofs.Cuts.{opens-once}
+use Rattle.script.proofs.Cuts.{cut-once}
 use Rattle.script.proofs.Lists.{steady-number, steady-pair, gives-once}
 
 -- each word has its place among all
@@ -48,14 +48,14 @@ not-skipped Hex tail h = omega arith
 not-skipped Help tail h = omega arith
 
 -- what is behind the head that a line is cut at is what its call is given
-pub given-at : (w : Word) {line head rest : List ℕ} {m : Meaning} → Opens line head rest → head ≡ spelled w → Says line m → Given w rest m
+pub given-at : (w : Word) {line head rest : List ℕ} {m : Meaning} → Cut 32 line head rest → head ≡ spelled w → Says line m → Given w rest m
 given-at w {line} {head} {rest} {m} cut e a =
-    let same = opens-once (a .opens) cut in
+    let same = cut-once (a .cut) cut in
     let words : a .word ≡ w = spelled-once (same .0 ∙ e) in
     subst (λ v. Given v rest m) words (subst (λ l. Given (a .word) l m) (same .1) (a .given))
 
 pub plain : (line : List ℕ) → Plain line
 plain line = record {
-  once = λ m n a b. given-once (a .word) (a .rest) (a .given) (given-at (a .word) (a .opens) refl b);
-  apart = λ m a h. not-skipped (a .word) (a .opens .tail) (subst Skipped (a .opens .cut) h);
+  once = λ m n a b. given-once (a .word) (a .rest) (a .given) (given-at (a .word) (a .cut) refl b);
+  apart = λ m a h. not-skipped (a .word) (a .cut .tail) (subst Skipped (a .cut .joined) h);
 }

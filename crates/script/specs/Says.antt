@@ -10,7 +10,7 @@ use Rattle.script.specs.declared.calls.Call.{Call}
 use Rattle.script.specs.declared.calls.Call.the-variants.{Formula as FormulaCall, Text as TextCall, Help as HelpCall}
 use Rattle.script.specs.declared.calls.Line.{Line}
 use Rattle.script.specs.declared.calls.Line.the-variants.{Call as CallLine, Skip, What}
-use Rattle.script.specs.Words.{Blank, Opens}
+use Rattle.script.specs.Words.{Blank, Cut}
 use Rattle.script.specs.Values.{Numbers, Pairs}
 
 -- the bytes of a word
@@ -47,7 +47,7 @@ Given Help rest m = (m ≡ help) × Blank rest
 pub record Says (line : List ℕ) (m : Meaning) : Type 0 where
   pub word : Word
   pub rest : List ℕ
-  pub opens : Opens line (spelled word) rest
+  pub cut : Cut 32 line (spelled word) rest
   pub given : Given word rest m
 
 -- the line is empty, or a comment

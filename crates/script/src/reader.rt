@@ -69,7 +69,7 @@ pub fn read(heap: Global, line: &[u8]) -> Result<Line, AllocError>
     if is_skipped(line) {
         return Ok(Line::Skip);
     }
-    let (head, rest) = cut(line);
+    let (head, rest) = cut(line, b' ');
     let Some(word) = known_word(head) else {
         return Ok(Line::What);
     };

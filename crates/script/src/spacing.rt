@@ -1,9 +1,9 @@
-// Spaces and words: how a line is cut. Relies on nothing.
+// Where bytes are cut, and the words of a line. Relies on nothing.
 ghost use mathlib.Core.Path.{_≡_};
 ghost use Prim.Native.Nat.{ℕ, _<_, _≤_};
 ghost use lib.ListN.{length, getD};
 ghost use Rattle.std.specs.Options.{Cases as BySome};
-ghost use Rattle.script.specs.Words.{Blank, Opens, Skips, First};
+ghost use Rattle.script.specs.Words.{Blank, Cut, Skips, First};
 
 // What is left behind the spaces at the front.
 pub(crate) fn after_gap(bytes: &[u8]) -> &[u8]
@@ -16,28 +16,28 @@ pub(crate) fn after_gap(bytes: &[u8]) -> &[u8]
     rest
 }
 
-// How many bytes stand before the first space.
-fn word_len(bytes: &[u8]) -> usize
+// How many bytes stand before the first byte `by`.
+fn front_len(bytes: &[u8], by: u8) -> usize
     ensures within { λ r. ⌜ r ≤ length (now (bytes .entry)) ⌝ }
-    ensures solid { λ r. ⌜ ((k : ℕ) → k < r → getD (now (bytes .entry)) k 0 ≡ 32 → ⊥) ⌝ }
-    ensures stops { λ r. ⌜ (r < length (now (bytes .entry)) → getD (now (bytes .entry)) r 0 ≡ 32) ⌝ }
+    ensures solid { λ r. ⌜ ((k : ℕ) → k < r → getD (now (bytes .entry)) k 0 ≡ by → ⊥) ⌝ }
+    ensures stops { λ r. ⌜ (r < length (now (bytes .entry)) → getD (now (bytes .entry)) r 0 ≡ by) ⌝ }
 {
     for (i, b) in bytes.iter().enumerate() {
-        if *b == b' ' {
+        if *b == by {
             return i;
         }
     }
     bytes.len()
 }
 
-// The bytes before the first space, and those behind it.
-pub(crate) fn cut(bytes: &[u8]) -> (&[u8], &[u8])
-    ensures { λ r. ⌜ Opens (now (bytes .entry)) (now (r .0)) (now (r .1)) ⌝ }
+// The bytes before the first byte `by`, and those behind it.
+pub(crate) fn cut(bytes: &[u8], by: u8) -> (&[u8], &[u8])
+    ensures { λ r. ⌜ Cut by (now (bytes .entry)) (now (r .0)) (now (r .1)) ⌝ }
 {
-    let (word, tail) = bytes.split_at(word_len(bytes));
+    let (front, tail) = bytes.split_at(front_len(bytes, by));
     match tail {
-        [] => (word, tail),
-        [_, rest @ ..] => (word, rest),
+        [] => (front, tail),
+        [_, rest @ ..] => (front, rest),
     }
 }
 
@@ -49,6 +49,6 @@ pub(crate) fn first_word(bytes: &[u8]) -> Option<(&[u8], &[u8])>
     if from.is_empty() {
         None
     } else {
-        Some(cut(from))
+        Some(cut(from, b' '))
     }
 }

@@ -1,9 +1,9 @@
 use mathlib.Core.Path.{_≡_, sym, subst, _∙_}
 use borrow.Author.Needs.{needs}
 use Rattle.std.proofs.shelf.Results.{made-from-err, cases-at-some, cases-at-none}
-use Rattle.script.specs.Words.{Opens}
+use Rattle.script.specs.Words.{Cut}
 use Rattle.script.specs.Says.{Skipped}
-use Rattle.script.proofs.Cuts.{opens-once}
+use Rattle.script.proofs.Cuts.{cut-once}
 use Rattle.script.proofs.Once.{plain, given-at}
 use Rattle.script.proofs.reader.read.Needs as need
 
@@ -12,7 +12,7 @@ returns-then-is-skipped c = record { answer = search needs; plain = plain (c .ar
 
 pub returns-in-rest : need.returns-in-rest
 returns-in-rest c = record {
-  answer = (search needs, λ m a. c .in-rest .ensures tt (a .word) (opens-once (c .cut .ensures) (a .opens) .0));
+  answer = (search needs, λ m a. c .in-rest .ensures tt (a .word) (cut-once (c .cut .ensures) (a .cut) .0));
   plain = plain (c .args .line .now);
 }
 
@@ -24,7 +24,7 @@ returns-in-Some-2 c = record {
   answer = record {
     word = c .in-Some .word;
     rest = c .cut .result .1 .now;
-    opens = subst (λ l. Opens (c .args .line .now) l (c .cut .result .1 .now)) (c .in-Some .ensures tt) (c .cut .ensures);
+    cut = subst (λ l. Cut 32 (c .args .line .now) l (c .cut .result .1 .now)) (c .in-Some .ensures tt) (c .cut .ensures);
     given = cases-at-some _ _ _ (c .in-Some-2 .is) (c .in-Continue-call .ensures tt);
   };
   plain = plain (c .args .line .now);

@@ -8,6 +8,6 @@ pub returns-else-is-empty : need.returns-else-is-empty
 returns-else-is-empty c = let some : 0 < length (c .after-gap-from .result .now) = search needs in record {
   from = c .after-gap-from .result .now;
   skips = c .after-gap-from .ensures;
-  opens = c .cut .ensures;
+  ends = c .cut .ensures;
   some = solid-some _ _ _ some (c .after-gap-from .ensures .dark) (c .cut .ensures);
 }
