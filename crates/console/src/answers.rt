@@ -60,13 +60,11 @@ impl Column {
     }
 
     // Adds this word of each entry.
-    fn push_all(self, words: &mut Vec<u32>, formula: &Formula) -> Result<(), AllocError>
-        ensures { λ r. ⌜ made r (λ _. vec-items (now (words .exit)) ≡ vec-items (now (words .entry)) ++ map (columnOf self) (entriesOf (now (formula .entry)))) ⌝ }
+    fn push_all(self, words: &mut Vec<u32>, entries: &[Entry]) -> Result<(), AllocError>
+        ensures { λ r. ⌜ made r (λ _. vec-items (now (words .exit)) ≡ vec-items (now (words .entry)) ++ map (columnOf self) (now (entries .entry))) ⌝ }
     {
-        let mut i = 0;
-        while let Some(entry) = formula.entry(i) {
-            words.push(self.word(entry))?;
-            i += 1;
+        for entry in entries {
+            words.push(self.word(*entry))?;
         }
         Ok(())
     }
@@ -78,8 +76,8 @@ fn table_words(heap: Global, formula: &Formula) -> Result<Vec<u32>, AllocError>
 {
     let mut words = Vec::new(heap);
     words.push(formula.len() as u32)?;
-    Column::Kind.push_all(&mut words, formula)?;
-    Column::Argument.push_all(&mut words, formula)?;
+    Column::Kind.push_all(&mut words, formula.entries())?;
+    Column::Argument.push_all(&mut words, formula.entries())?;
     Ok(words)
 }
 
