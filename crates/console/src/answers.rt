@@ -25,7 +25,7 @@ fn layer_name(layer: Layer) -> &'static str
 }
 
 // `refused NO LAYER PLACE`
-pub fn refused(heap: Global, refusal: Refusal) -> Result<String, AllocError>
+pub(crate) fn refused(heap: Global, refusal: Refusal) -> Result<String, AllocError>
     ensures { λ r. ⌜ made r (λ s. string-bytes s ≡ refusedLine refusal) ⌝ }
 {
     let number = refusal.cause.number();
@@ -35,7 +35,7 @@ pub fn refused(heap: Global, refusal: Refusal) -> Result<String, AllocError>
 }
 
 // `ok k K`
-pub fn accepted(heap: Global, formula: &Formula) -> Result<String, AllocError>
+pub(crate) fn accepted(heap: Global, formula: &Formula) -> Result<String, AllocError>
     ensures { λ r. ⌜ made r (λ s. string-bytes s ≡ acceptedLine (entriesOf (now (formula .entry)))) ⌝ }
 {
     let k = formula.elementary();
@@ -94,7 +94,7 @@ fn with_words(heap: Global, line: String, words: &[u32]) -> Result<String, Alloc
 }
 
 // `ok k K words n kinds args`
-pub fn table(heap: Global, formula: &Formula) -> Result<String, AllocError>
+pub(crate) fn table(heap: Global, formula: &Formula) -> Result<String, AllocError>
     ensures { λ r. ⌜ made r (λ s. string-bytes s ≡ tableLine (entriesOf (now (formula .entry)))) ⌝ }
 {
     let mut line = accepted(heap, formula)?;
@@ -104,7 +104,7 @@ pub fn table(heap: Global, formula: &Formula) -> Result<String, AllocError>
 }
 
 // `what? LINE`, for a line that is no call.
-pub fn what(heap: Global, line: &[u8]) -> Result<Vec<u8>, AllocError>
+pub(crate) fn what(heap: Global, line: &[u8]) -> Result<Vec<u8>, AllocError>
     ensures { λ r. ⌜ made r (λ v. vec-items v ≡ codes "what? " ++ now (line .entry)) ⌝ }
 {
     let mut answer = Vec::from_slice(heap, b"what? ")?;
@@ -113,7 +113,7 @@ pub fn what(heap: Global, line: &[u8]) -> Result<Vec<u8>, AllocError>
 }
 
 // The answer with its line ended.
-pub fn ended(answer: Vec<u8>) -> Result<Vec<u8>, AllocError>
+pub(crate) fn ended(answer: Vec<u8>) -> Result<Vec<u8>, AllocError>
     ensures { λ r. ⌜ made r (λ v. vec-items v ≡ vec-items answer ++ 10 ∷ []) ⌝ }
 {
     let mut answer = answer;
@@ -134,7 +134,7 @@ fn usage(word: Word) -> &'static str {
 }
 
 // A line for each call.
-pub fn help(heap: Global) -> Result<String, AllocError> {
+pub(crate) fn help(heap: Global) -> Result<String, AllocError> {
     let mut lines = String::new(heap);
     for word in Word::all() {
         if !lines.is_empty() {
