@@ -11,9 +11,9 @@ pub record System : Type 0 where
   pub arcs : ℕ → List Arc
   pub initial : List ℕ
 
--- an arc that there is none of, where a list has ended
+-- what stands for an arc past a list's end; every index below is within its list
 abbrev pub no-arc : Arc
-no-arc = record { event = 64; target = 0 }
+no-arc = record { event = 0; target = 0 }
 
 -- fact p is one of the facts of s
 abbrev pub HasFact : System → ℕ → ℕ → Type 0

@@ -1,15 +1,13 @@
 -- A test of what a formula means at a place of a run. The code computes it; `Decided` says that it is right. Relies on Runs.
 use mathlib.Core.Bool.{Bool, true, false, not, _&&_, _||_}
 use mathlib.Core.List.{List, [], _∷_}
-use Prim.Native.Nat.{ℕ, zero, suc, _+_, _-_, _/_, _%_, _^_}
+use Prim.Native.Nat.{ℕ, zero, suc, _+_, _-_}
 use lib.Dec.{eqb, ltb}
+use Rattle.formula.specs.Atoms.{bitOf}
 use Rattle.formula.specs.Ltl.{Ltl, top, fact, enabled, taken, neg, or, next, until}
 use Rattle.meaning.specs.declared.Arc.{Arc}
 use Rattle.meaning.specs.Systems.{System}
 use Rattle.meaning.specs.Runs.{Run, places, stateAt, eventAt, after}
-
-abbrev pub factOf : ℕ → ℕ → Bool
-factOf word p = eqb ((word / 2 ^ p) % 2) 1
 
 abbrev pub bears : ℕ → List Arc → Bool
 bears t [] = false
@@ -27,7 +25,7 @@ sweep f g last (suc d) p = g p || (f p && sweep f g last d (p + 1))
 -- a U by two sweeps: one along the loop, and one from p to the run's end that goes on with it
 abbrev pub truth : System → Run → Ltl → ℕ → Bool
 truth M r top p = true
-truth M r (fact q) p = factOf (M .facts (stateAt r p)) q
+truth M r (fact q) p = bitOf (M .facts (stateAt r p)) q
 truth M r (enabled t) p = bears t (M .arcs (stateAt r p))
 truth M r (taken t) p = goes r p && eqb (eventAt r p) t
 truth M r (neg f) p = not (truth M r f p)

@@ -1,13 +1,13 @@
 // One place of a row, from the rows of an entry's parts.
-ghost use mathlib.Core.Bool.{cond, _||_};
+ghost use mathlib.Core.Bool.{true};
 ghost use mathlib.Core.Path.{_≡_};
-ghost use Prim.Native.Nat.{_+_, _≤_, _<_};
+ghost use Prim.Native.Nat.{_<_};
 ghost use lib.ListN.{length};
 ghost use Rattle.meaning.specs.Runs.{places, after};
-ghost use Rattle.meaning.specs.Truth.{factOf, bears, goes};
+ghost use Rattle.meaning.specs.Truth.{bears, goes};
+ghost use Rattle.formula.specs.Atoms.{bitOf};
 ghost use Rattle.formula.specs.Table.{ranged};
 ghost use Rattle.formula.specs.declared.entry.Entry.the-variants.{Until as TheUntil};
-ghost use mathlib.Core.Bool.{true};
 ghost use Rattle.rows.specs.Rows.{on, Stand};
 ghost use Rattle.rows.specs.Cells.{cell as cellOf, runOf};
 use crate::run::Run;
@@ -36,7 +36,7 @@ fn enabled(arcs: &[Arc], event: u8) -> bool
 
 fn has_fact(word: u32, fact: u8) -> bool
     requires { ⌜ fact < 32 ⌝ }
-    ensures { λ r. ⌜ r ≡ factOf word fact ⌝ }
+    ensures { λ r. ⌜ r ≡ bitOf word fact ⌝ }
 {
     (word >> fact) & 1 == 1
 }
@@ -63,7 +63,14 @@ impl Run<'_> {
     }
 
     // What an entry is at a place; a U is swept and not asked here.
-    pub(crate) fn cell<S: States>(&self, states: &S, e: Entry, parts: Parts, cells: &[u8], p: usize) -> bool
+    pub(crate) fn cell<S: States>(
+        &self,
+        states: &S,
+        e: Entry,
+        parts: Parts,
+        cells: &[u8],
+        p: usize,
+    ) -> bool
         requires within { ⌜ p < places (runOf (now self)) ⌝ }
         requires rows { ⌜ Stand e (parts .first) (parts .last) (places (runOf (now self))) (length (now cells)) ⌝ }
         requires other { ⌜ (e ≡ TheUntil → ⊥) ⌝ }

@@ -46,7 +46,14 @@ impl Run<'_> {
     }
 
     // The row of entry `at` at byte `out`, the rows of its parts before it.
-    pub(crate) fn fill<S: States>(&self, states: &S, formula: &Formula, at: usize, cells: &mut [u8], out: usize)
+    pub(crate) fn fill<S: States>(
+        &self,
+        states: &S,
+        formula: &Formula,
+        at: usize,
+        cells: &mut [u8],
+        out: usize,
+    )
         requires within { ⌜ at < length (entriesOf (now formula)) ⌝ }
         requires below { ⌜ size (sub (entriesOf (now formula)) at) * places (runOf (now self)) ≤ out + places (runOf (now self)) ⌝ }
         requires room { ⌜ out + places (runOf (now self)) ≤ length (now cells) ⌝ }
