@@ -1,0 +1,4 @@
+pub mod Places
+pub mod Sweeps
+pub mod Right
+pub mod Examples

@@ -1,0 +1,5 @@
+pub mod Systems
+pub mod Paths
+pub mod Runs
+pub mod Truth
+pub mod Claims
