@@ -2,6 +2,8 @@
 // Relies on formula, text, meaning and rows.
 mod plants;
 
+use meaning::examples_stand;
+use meaning::test_decides;
 use plants::Noise;
 use plants::NoiseStates;
 use plants::Slide;
@@ -73,7 +75,10 @@ fn examples(rt: &LibcRuntime) -> io::Result<()> {
     let still = ["!XT", "X!T", "(TUp0)", "GT"];
     answers(rt, &Still, &[0], &[64], 1, &still, &mut cells)?;
     let left = cells.iter().copied().max().unwrap_or(0);
-    println!(rt, "largest byte left {left}")
+    println!(rt, "largest byte left {left}")?;
+    // their contracts are the theorems that these answers rest on
+    let proved = examples_stand() & test_decides();
+    println!(rt, "proved {proved}")
 }
 
 // A formula of 48 entries, ten of them elementary.
