@@ -37,6 +37,10 @@ evaluated {es} {i} {count} {word} {p} eq w = let v = subst (λ f. Worth f count 
 abbrev pub made : Bool → ℕ → ℕ → Part
 made b n k = record { holds = b; entries = n; elementary = k }
 
+-- the same of a part that is made
+pub made-is : {es : List Entry} {i count word : ℕ} {p q : Part} → p ≡ q → Evaluated es i count word q → Evaluated es i count word p
+made-is {es} {i} {count} {word} eq v = subst (Evaluated es i count word) (sym eq) v
+
 module _ (es : List Entry) (h : sound 0 es ≡ true) (i : ℕ) (within : i < length es) (count : ℕ) (k : count ≡ weight (take (i + 1) es)) where
   this : (e : Entry) → getD es i True ≡ e → count ≡ weight (take i es) + elementary e
   this e eq = k ∙ sumBy-more elementary es i True within ∙ ap (λ e. weight (take i es) + elementary e) eq

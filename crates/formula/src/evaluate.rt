@@ -18,6 +18,18 @@ pub struct Part {
     pub elementary: usize,
 }
 
+impl Part {
+    fn new(holds: bool, entries: usize, elementary: usize) -> Part
+        ensures { λ r. ⌜ r ≡ record { holds = holds; entries = entries; elementary = elementary } ⌝ }
+    {
+        Part {
+            holds,
+            entries,
+            elementary,
+        }
+    }
+}
+
 fn bit(word: u32, place: usize) -> bool
     requires { ⌜ place < 32 ⌝ }
     ensures { λ r. ⌜ r ≡ bitOf word place ⌝ }
@@ -34,31 +46,19 @@ pub(crate) fn evaluate(entries: &[Entry], at: usize, count: usize, word: u32) ->
     ensures { λ r. ⌜ Evaluated (now (entries .entry)) at count word r ⌝ }
 {
     match entries[at] {
-        Entry::True => Part {
-            holds: true,
-            entries: 1,
-            elementary: 0,
-        },
-        Entry::Fact(_) | Entry::Enabled(_) | Entry::Taken(_) => Part {
-            holds: bit(word, count - 1),
-            entries: 1,
-            elementary: 1,
-        },
+        Entry::True => Part::new(true, 1, 0),
+        Entry::Fact(_) | Entry::Enabled(_) | Entry::Taken(_) => Part::new(
+            bit(word, count - 1),
+            1,
+            1,
+        ),
         Entry::Not => {
             let part = evaluate(entries, at - 1, count, word);
-            Part {
-                holds: !part.holds,
-                entries: part.entries + 1,
-                elementary: part.elementary,
-            }
+            Part::new(!part.holds, part.entries + 1, part.elementary)
         }
         Entry::Next => {
             let part = evaluate(entries, at - 1, count - 1, word);
-            Part {
-                holds: bit(word, count - 1),
-                entries: part.entries + 1,
-                elementary: part.elementary + 1,
-            }
+            Part::new(bit(word, count - 1), part.entries + 1, part.elementary + 1)
         }
         Entry::Or => {
             let last = evaluate(entries, at - 1, count, word);
@@ -68,11 +68,12 @@ pub(crate) fn evaluate(entries: &[Entry], at: usize, count: usize, word: u32) ->
                 count - last.elementary,
                 word,
             );
-            Part {
-                holds: first.holds | last.holds,
-                entries: first.entries + last.entries + 1,
-                elementary: first.elementary + last.elementary,
-            }
+            let size = first.entries + last.entries + 1;
+            Part::new(
+                first.holds | last.holds,
+                size,
+                first.elementary + last.elementary,
+            )
         }
         Entry::Until => {
             let last = evaluate(entries, at - 1, count - 1, word);
@@ -82,11 +83,9 @@ pub(crate) fn evaluate(entries: &[Entry], at: usize, count: usize, word: u32) ->
                 count - 1 - last.elementary,
                 word,
             );
-            Part {
-                holds: last.holds | (first.holds & bit(word, count - 1)),
-                entries: first.entries + last.entries + 1,
-                elementary: first.elementary + last.elementary + 1,
-            }
+            let holds = last.holds | (first.holds & bit(word, count - 1));
+            let size = first.entries + last.entries + 1;
+            Part::new(holds, size, first.elementary + last.elementary + 1)
         }
     }
 }

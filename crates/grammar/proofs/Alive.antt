@@ -12,7 +12,7 @@ use Rattle.grammar.specs.Phrases.{Phrase, truth, named, prefixed, joined, digi
 use Rattle.grammar.specs.Machine.{Part, phrase, op, num, more, lit, Move, stop, to, digit, nameParts, begin, across, move, final}
 use Rattle.grammar.specs.declared.Name.{Name}
 use Rattle.grammar.specs.declared.Name.the-variants.{Fact, Enabled, Taken}
-use Rattle.grammar.proofs.Marks.{mark-84, mark-40, mark-opening, mark-letter, joint-sign, sign-clear}
+use Rattle.grammar.proofs.Marks.{mark-84, mark-40, mark-opening, mark-letter, joint-sign, sign-clear, Clear, shape}
 
 abbrev pub go : Move → (List Part → Bool) → Bool
 go stop j = false
@@ -30,11 +30,6 @@ alive l k s = run l (λ _. true) k s
 -- and nothing more has to come
 abbrev pub accepts : (Name → ℕ) → List Part → List ℕ → Bool
 accepts l k s = run l final k s
-
--- what follows is no digit
-abbrev Clear : List ℕ → Type 0
-Clear [] = Unit {0}
-Clear (c ∷ s) = digit c ≡ false
 
 pub go-stop : (m : Move) (j : List Part → Bool) → go m j ≡ true → (k : List Part) × (m ≡ to k) × (j k ≡ true)
 go-stop stop j h = absurd (both-ways false refl h)
@@ -90,9 +85,6 @@ module _ (l : Name → ℕ) (lim : Limits l) (end : List Part → Bool) (skip : 
   name-back Fact n k v h cl = ap (λ s. run l end (num Fact ∷ k) (s ++ v)) (append-nil (digits n)) ∙ number-back Fact n k v h cl
   name-back Enabled n k v h cl = ap (λ s. run l end (num Enabled ∷ k) (s ++ v)) (append-nil (digits n)) ∙ number-back Enabled n k v h cl
   name-back Taken n k v h cl = ap (run l end (num Taken ∷ lit 93 ∷ k)) (append-assoc (digits n) (93 ∷ []) v) ∙ number-back Taken n (lit 93 ∷ k) (93 ∷ v) h refl
-
-  shape : (q : ℕ) (s w v : List ℕ) → (s ++ q ∷ w ++ 41 ∷ []) ++ v ≡ s ++ q ∷ (w ++ 41 ∷ v)
-  shape q s w v = simp append-assoc
 
   pub run-back : (p : Phrase) (k : List Part) (v : List ℕ) → Within l p → Clear v → run l end (phrase ∷ k) (write p ++ v) ≡ run l end k v
   run-back truth k v h cl = ap (λ m. go (begin m k) (λ k′. run l end k′ v)) mark-84

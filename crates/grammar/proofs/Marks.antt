@@ -1,6 +1,7 @@
 -- The bytes that begin or join phrases. Assumes nothing.
 use mathlib.Core.Path.{_≡_, refl, sym, subst}
 use mathlib.Core.Bool.{true, false, cond, _&&_}
+use mathlib.Core.List.{List, [], _∷_, _++_, append-assoc}
 use Prim.Native.Nat.{ℕ, _≤_}
 use native.Mathlib.Omega.{arith}
 use lib.Dec.{eqb, ltb, leb}
@@ -75,6 +76,15 @@ by-joint P h c o = at Or _ (at And _ (at Implies _ (at Until _ o)))
   where
     at : (j : Joint) (r : Option Joint) → P c r → P c (cond (eqb c (sign j)) (Some j) r)
     at j r o = cond-both (eqb c (sign j)) (Some j) r (P c) (λ eq. subst (λ k. P k (Some j)) (sym (eqb-true c (sign j) eq)) (h j)) (λ _. o)
+
+-- what follows is no digit
+abbrev pub Clear : List ℕ → Type 0
+Clear [] = Unit {0}
+Clear (c ∷ s) = digit c ≡ false
+
+-- a phrase of two and what follows it, part by part
+pub shape : (q : ℕ) (s w v : List ℕ) → (s ++ q ∷ w ++ 41 ∷ []) ++ v ≡ s ++ q ∷ (w ++ 41 ∷ v)
+shape q s w v = simp append-assoc
 
 pub digit-bounds : (c : ℕ) → digit c ≡ true → (48 ≤ c) × (c ≤ 57)
 digit-bounds c h =

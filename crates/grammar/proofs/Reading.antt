@@ -16,7 +16,7 @@ use Rattle.grammar.specs.Machine.{Mark, mark-truth, mark-pair, mark-none, mark
 use Rattle.grammar.specs.declared.Name.{Name}
 use Rattle.grammar.specs.declared.Name.the-variants.{Fact, Enabled, Taken}
 use Rattle.grammar.specs.declared.Joint.{Joint}
-use Rattle.grammar.proofs.Marks.{mark-84, mark-40, mark-opening, mark-letter, joint-sign, sign-clear}
+use Rattle.grammar.proofs.Marks.{mark-84, mark-40, mark-opening, mark-letter, joint-sign, sign-clear, Clear, shape}
 
 data Out : Type 0 where
   done : Phrase → List ℕ → Out
@@ -25,11 +25,6 @@ data Out : Type 0 where
 data Num : Type 0 where
   num : ℕ → List ℕ → Num
   nan : Num
-
--- what follows is no digit
-abbrev Clear : List ℕ → Type 0
-Clear [] = Unit {0}
-Clear (c ∷ s) = digit c ≡ false
 
 abbrev number : List ℕ → Num
 number [] = nan
@@ -94,13 +89,8 @@ name-back Fact n v h k = ap (λ s. name Fact (number (s ++ v))) (append-nil (dig
 name-back Enabled n v h k = ap (λ s. name Enabled (number (s ++ v))) (append-nil (digits n)) ∙ ap (name Enabled) (number-back n v h k)
 name-back Taken n v h k = ap (λ s. name Taken (number s)) (append-assoc (digits n) (93 ∷ []) v) ∙ ap (name Taken) (number-back n (93 ∷ v) h refl)
 
--- the parts of a phrase of two
-module _ (q : ℕ) (s w : List ℕ) where
-  shape : (v : List ℕ) → (s ++ q ∷ w ++ 41 ∷ []) ++ v ≡ s ++ q ∷ (w ++ 41 ∷ v)
-  shape v = simp append-assoc
-
-  lens : length (s ++ q ∷ w ++ 41 ∷ []) ≡ length s + length w + 2
-  lens = simp length-append (omega (arith, length-append w (41 ∷ [])))
+lens : (q : ℕ) (s w : List ℕ) → length (s ++ q ∷ w ++ 41 ∷ []) ≡ length s + length w + 2
+lens q s w = simp length-append (omega (arith, length-append w (41 ∷ [])))
 
 read-back : (p : Phrase) (n : ℕ) (v : List ℕ) → Within loose p → Clear v → length (write p) ≤ n → parse n (write p ++ v) ≡ done p v
 read-back truth zero v h k l = absurd (omega arith)

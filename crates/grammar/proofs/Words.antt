@@ -15,7 +15,7 @@ use Rattle.grammar.specs.declared.Name.the-variants.{Fact, Enabled, Taken}
 use Rattle.grammar.specs.declared.Joint.{Joint}
 use Rattle.grammar.specs.declared.Joint.the-variants.{Or}
 use Rattle.grammar.proofs.Digits.{one-digit, two-digits}
-use Rattle.grammar.proofs.Marks.{by-mark, by-joint, digit-bounds}
+use Rattle.grammar.proofs.Marks.{by-mark, by-joint, digit-bounds, shape}
 use Rattle.grammar.proofs.Alive.{alive, Limits, go-stop}
 
 -- the texts of a part
@@ -34,9 +34,6 @@ Words l (y ∷ k) s = (w : List ℕ) × (v : List ℕ) × Word l y w × Words l 
 abbrev After : (Name → ℕ) → Move → List ℕ → Type 0
 After l stop s = ⊥
 After l (to k) s = Words l k s
-
-shape : (q : ℕ) (s w v : List ℕ) → (s ++ q ∷ w ++ 41 ∷ []) ++ v ≡ s ++ q ∷ (w ++ 41 ∷ v)
-shape q s w v = simp append-assoc
 
 module _ (l : Name → ℕ) (lim : Limits l) where
   -- some text of each list of parts

@@ -23,7 +23,7 @@ use Rattle.grammar.specs.declared.Name.{Name}
 use Rattle.grammar.specs.declared.Name.the-variants.{Fact as FactName, Enabled as EnabledName, Taken as TakenName}
 use Rattle.grammar.specs.declared.Prefix.{Prefix}
 use Rattle.grammar.specs.declared.Prefix.the-variants.{Not as Bang, Next as Ex, Finally, Globally}
-use Rattle.grammar.proofs.Marks.{mark-84, mark-40, mark-opening, mark-letter}
+use Rattle.grammar.proofs.Marks.{mark-84, mark-40, mark-opening, mark-letter, shape}
 use Rattle.draft.specs.Drafts.{Adds, front, rear, between, behind}
 use Rattle.text.specs.Spelled.{left, Char, Ended, Took, Failed, Named, Written}
 use Rattle.text.specs.declared.reader.Reader.{Reader}
@@ -150,15 +150,12 @@ module _ {r r1 : Reader} where
       took = record {
         text =
             h .text
-            ∙ ap (λ s. 40 ∷ s) (w .took .text ∙ ap (λ s. write (w .says) ++ s) (z .text ∙ ap (λ s. sign j ∷ s) (v .took .text ∙ ap (λ s. write (v .says) ++ s) (y .text))) ∙ shape (sign j) (write (w .says)) (write (v .says)) (left r5));
+            ∙ ap (λ s. 40 ∷ s) (w .took .text ∙ ap (λ s. write (w .says) ++ s) (z .text ∙ ap (λ s. sign j ∷ s) (v .took .text ∙ ap (λ s. write (v .says) ++ s) (y .text))) ∙ sym (shape (sign j) (write (w .says)) (write (v .says)) (left r5)));
         less = omega (arith, longer h, w .took .less, z .less, v .took .less, y .less);
         goes = λ k. opens h k ∙ w .took .goes (op ∷ phrase ∷ lit 41 ∷ k) ∙ z .goes (phrase ∷ lit 41 ∷ k) ∙ v .took .goes (lit 41 ∷ k) ∙ y .goes k;
       };
       drafted = renamed (flat-joint j (w .says) (v .says)) (adds (adds (adds (w .drafted) d) (v .drafted)) d′);
     }
-      where
-        shape : (q : ℕ) (s w v : List ℕ) → s ++ q ∷ (w ++ 41 ∷ v) ≡ (s ++ q ∷ w ++ 41 ∷ []) ++ v
-        shape q s w v = simp append-assoc
 
 -- a name that is read or cannot be, behind its first byte
 pub name-cases : (r r1 r2 : Reader) (had : List Entry) (n : ℕ) (has : List Entry) (m : ℕ) (o : Result (Unit {0}) Fault) (a : Name) → Char r r1 (opening a) → Cases o (λ _. Named a r1 r2 had n has m) (λ e. Failed (nameParts a) r1 e) → Cases o (λ _. Written r r2 had n has m) (λ e. Failed (phrase ∷ []) r e)

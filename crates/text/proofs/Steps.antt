@@ -18,7 +18,7 @@ use Rattle.grammar.specs.declared.Joint.{Joint}
 use Rattle.grammar.specs.declared.Fault.{Fault}
 use Rattle.grammar.specs.declared.Fault.the-variants.{Byte, End, Number}
 use Rattle.grammar.proofs.Digits.{one-digit, two-digits}
-use Rattle.grammar.proofs.Marks.{joint-sign}
+use Rattle.grammar.proofs.Marks.{joint-sign, Clear}
 use Rattle.text.specs.Spelled.{left, Char, Ended, Took, Failed}
 use Rattle.text.specs.declared.reader.Reader.{Reader}
 
@@ -47,11 +47,6 @@ module _ {r r′ : Reader} {c : ℕ} (h : Char r r′ c) where
 -- no character where one has to come
 pub ended : {r : Reader} {d : Fault} → Ended r d → (k : List Part) → final k ≡ false → outcome k (r .at) (left r) ≡ not d
 ended {r} {d} h k eq = ap (outcome k (r .at)) (h .none) ∙ cond-false (final k) _ _ eq ∙ ap not (sym (h .short))
-
--- what follows is no digit
-abbrev pub Clear : List ℕ → Type 0
-Clear [] = Unit {0}
-Clear (c ∷ s) = digit c ≡ false
 
 is-digit : (a : ℕ) → 48 ≤ a → a ≤ 57 → digit a ≡ true
 is-digit a lo hi = grind (arith, tells)

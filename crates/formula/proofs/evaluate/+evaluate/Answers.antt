@@ -1,16 +1,15 @@
-use mathlib.Core.Path.{_≡_, refl, sym, subst}
+use mathlib.Core.Path.{_≡_, refl, ap, _∙_}
 use mathlib.Core.Bool.{_&&_, _||_}
 use mathlib.Core.Logic.{⊎-elim}
-use Prim.Native.Nat.{_+_, _-_}
+use Prim.Native.Nat.{_+_}
 use native.Mathlib.Omega.{arith}
-use Rattle.formula.specs.Evaluated.{Evaluated}
 use Rattle.formula.specs.Ltl.{fact, enabled, taken, neg, or, next, until}
 use Rattle.formula.specs.declared.entry.Entry.the-variants.{Fact, Enabled, Taken, Not, Or, Next, Until}
-use Rattle.formula.proofs.Evaluations.{made, some-count, under, across, behind, true-value, leaf-value, not-value, next-value, or-value, until-value}
+use Rattle.formula.proofs.Evaluations.{made, made-is, some-count, under, across, behind, true-value, leaf-value, not-value, next-value, or-value, until-value}
 use Rattle.formula.proofs.evaluate.+evaluate.Needs as need
 
 pub returns-in-True : need.returns-in-True
-returns-in-True t c = true-value _ (c .pre .whole) _ (c .pre .within) _ (c .pre .counted) (c .in-True .is)
+returns-in-True t c = made-is (c .new .ensures) (true-value _ (c .pre .whole) _ (c .pre .within) _ (c .pre .counted) (c .in-True .is))
 
 pub sub-count : need.sub-count
 sub-count t c =
@@ -23,7 +22,7 @@ sub-count t c =
 
 pub returns-in-Fact : need.returns-in-Fact
 returns-in-Fact t c =
-    subst (λ b. Evaluated (c .args .entries .now) (c .args .at) (c .args .count) (c .args .word) (made b 1 1)) (sym (c .bit .ensures))
+    made-is (c .new-in-Fact .ensures ∙ ap (λ b. made b 1 1) (c .bit .ensures))
     (⊎-elim
     (λ e. leaf-value _ (c .pre .whole) _ (c .pre .within) _ (c .pre .counted) (Fact (e .0)) (e .1) refl (fact (e .0)) (λ s. refl) (λ o. refl) refl refl)
     (⊎-elim
@@ -36,13 +35,8 @@ evaluate-part-requires t c κs =
     let u = under _ (c .pre .whole) _ (c .pre .within) _ (c .pre .counted) Not (c .in-Not .is) neg refl (λ f s. refl) in
     (omega (arith, u .some, c .measured), (omega (arith, c .pre .within), (c .pre .whole, (omega (arith, u .counted), c .pre .few))))
 
-pub add-result : need.add-result
-add-result t c =
-    let u = under _ (c .pre .whole) _ (c .pre .within) _ (c .pre .counted) Not (c .in-Not .is) neg refl (λ f s. refl) in
-    omega (arith, u .fits, c .evaluate-part .ensures .size-is)
-
 pub returns-in-Not : need.returns-in-Not
-returns-in-Not t c = not-value _ (c .pre .whole) _ (c .pre .within) _ (c .pre .counted) (c .in-Not .is) (c .evaluate-part .ensures)
+returns-in-Not t c = made-is (c .new-in-Not .ensures) (not-value _ (c .pre .whole) _ (c .pre .within) _ (c .pre .counted) (c .in-Not .is) (c .evaluate-part .ensures))
 
 pub sub-count-in-Next : need.sub-count-in-Next
 sub-count-in-Next t c = under _ (c .pre .whole) _ (c .pre .within) _ (c .pre .counted) Next (c .in-Next .is) next refl (λ f s. refl) .enough
@@ -55,14 +49,9 @@ evaluate-part-requires-in-Next t c κs =
 pub sub-count-in-Next-2 : need.sub-count-in-Next-2
 sub-count-in-Next-2 t c = under _ (c .pre .whole) _ (c .pre .within) _ (c .pre .counted) Next (c .in-Next .is) next refl (λ f s. refl) .enough
 
-pub add-result-in-Next : need.add-result-in-Next
-add-result-in-Next t c =
-    let u = under _ (c .pre .whole) _ (c .pre .within) _ (c .pre .counted) Next (c .in-Next .is) next refl (λ f s. refl) in
-    omega (arith, u .fits, c .evaluate-part-in-Next .ensures .size-is)
-
 pub returns-in-Next : need.returns-in-Next
 returns-in-Next t c =
-    subst (λ b. Evaluated (c .args .entries .now) (c .args .at) (c .args .count) (c .args .word) (made b (c .evaluate-part-in-Next .result .entries + 1) (c .evaluate-part-in-Next .result .elementary + 1))) (sym (c .bit-in-Next .ensures))
+    made-is (c .new-in-Next .ensures ∙ ap (λ b. made b (c .evaluate-part-in-Next .result .entries + 1) (c .evaluate-part-in-Next .result .elementary + 1)) (c .bit-in-Next .ensures))
     (next-value _ (c .pre .whole) _ (c .pre .within) _ (c .pre .counted) (c .in-Next .is) (c .evaluate-part-in-Next .ensures))
 
 pub evaluate-last-requires : need.evaluate-last-requires
@@ -81,18 +70,8 @@ evaluate-first-requires t c κs =
     let b = behind _ (c .pre .whole) _ (c .pre .within) _ (c .pre .counted) a (c .evaluate-last .ensures) in
     (omega (arith, b .room, c .measured), (omega (arith, c .pre .within), (c .pre .whole, (omega (arith, b .counted), omega (arith, c .pre .few)))))
 
-pub add-result-in-Or : need.add-result-in-Or
-add-result-in-Or t c =
-    let a = across _ (c .pre .whole) _ (c .pre .within) _ (c .pre .counted) Or (c .in-Or .is) or refl (λ f g s. refl) in
-    omega (arith, behind _ (c .pre .whole) _ (c .pre .within) _ (c .pre .counted) a (c .evaluate-last .ensures) .fits, c .evaluate-first .ensures .size-is)
-
-pub add-result-in-Or-2 : need.add-result-in-Or-2
-add-result-in-Or-2 t c =
-    let a = across _ (c .pre .whole) _ (c .pre .within) _ (c .pre .counted) Or (c .in-Or .is) or refl (λ f g s. refl) in
-    omega (arith, behind _ (c .pre .whole) _ (c .pre .within) _ (c .pre .counted) a (c .evaluate-last .ensures) .fits, c .evaluate-first .ensures .size-is)
-
 pub returns-in-Or : need.returns-in-Or
-returns-in-Or t c = or-value _ (c .pre .whole) _ (c .pre .within) _ (c .pre .counted) (c .in-Or .is) (c .evaluate-last .ensures) (c .evaluate-first .ensures)
+returns-in-Or t c = made-is (c .new-in-Or .ensures) (or-value _ (c .pre .whole) _ (c .pre .within) _ (c .pre .counted) (c .in-Or .is) (c .evaluate-last .ensures) (c .evaluate-first .ensures))
 
 pub sub-count-in-Until : need.sub-count-in-Until
 sub-count-in-Until t c =
@@ -125,17 +104,40 @@ sub-count-in-Until-4 t c =
     let a = across _ (c .pre .whole) _ (c .pre .within) _ (c .pre .counted) Until (c .in-Until .is) until refl (λ f g s. refl) in
     omega (arith, a .enough)
 
-pub add-result-in-Until : need.add-result-in-Until
-add-result-in-Until t c =
-    let a = across _ (c .pre .whole) _ (c .pre .within) _ (c .pre .counted) Until (c .in-Until .is) until refl (λ f g s. refl) in
-    omega (arith, behind _ (c .pre .whole) _ (c .pre .within) _ (c .pre .counted) a (c .evaluate-last-in-Until .ensures) .fits, c .evaluate-first-in-Until .ensures .size-is)
-
-pub add-result-in-Until-2 : need.add-result-in-Until-2
-add-result-in-Until-2 t c =
-    let a = across _ (c .pre .whole) _ (c .pre .within) _ (c .pre .counted) Until (c .in-Until .is) until refl (λ f g s. refl) in
-    omega (arith, behind _ (c .pre .whole) _ (c .pre .within) _ (c .pre .counted) a (c .evaluate-last-in-Until .ensures) .fits, c .evaluate-first-in-Until .ensures .size-is)
-
 pub returns-in-Until : need.returns-in-Until
 returns-in-Until t c =
-    subst (λ b. Evaluated (c .args .entries .now) (c .args .at) (c .args .count) (c .args .word) (made (c .evaluate-last-in-Until .result .holds || (c .evaluate-first-in-Until .result .holds && b)) (c .evaluate-first-in-Until .result .entries + c .evaluate-last-in-Until .result .entries + 1) (c .evaluate-first-in-Until .result .elementary + c .evaluate-last-in-Until .result .elementary + 1))) (sym (c .bit-in-Until .ensures))
+    let first = c .evaluate-first-in-Until .result in
+    let last = c .evaluate-last-in-Until .result in
+    made-is
+    (c .new-in-Until .ensures ∙ ap (λ b. made (last .holds || (first .holds && b)) (first .entries + last .entries + 1) (first .elementary + last .elementary + 1)) (c .bit-in-Until .ensures))
     (until-value _ (c .pre .whole) _ (c .pre .within) _ (c .pre .counted) (c .in-Until .is) (c .evaluate-last-in-Until .ensures) (c .evaluate-first-in-Until .ensures))
+
+pub add-part : need.add-part
+add-part t c =
+    let u = under _ (c .pre .whole) _ (c .pre .within) _ (c .pre .counted) Not (c .in-Not .is) neg refl (λ f s. refl) in
+    omega (arith, u .fits, c .evaluate-part .ensures .size-is)
+
+pub add-part-in-Next : need.add-part-in-Next
+add-part-in-Next t c =
+    let u = under _ (c .pre .whole) _ (c .pre .within) _ (c .pre .counted) Next (c .in-Next .is) next refl (λ f s. refl) in
+    omega (arith, u .fits, c .evaluate-part-in-Next .ensures .size-is)
+
+pub add-size : need.add-size
+add-size t c =
+    let a = across _ (c .pre .whole) _ (c .pre .within) _ (c .pre .counted) Or (c .in-Or .is) or refl (λ f g s. refl) in
+    omega (arith, behind _ (c .pre .whole) _ (c .pre .within) _ (c .pre .counted) a (c .evaluate-last .ensures) .fits, c .evaluate-first .ensures .size-is)
+
+pub add-size-in-Or : need.add-size-in-Or
+add-size-in-Or t c =
+    let a = across _ (c .pre .whole) _ (c .pre .within) _ (c .pre .counted) Or (c .in-Or .is) or refl (λ f g s. refl) in
+    omega (arith, behind _ (c .pre .whole) _ (c .pre .within) _ (c .pre .counted) a (c .evaluate-last .ensures) .fits, c .evaluate-first .ensures .size-is)
+
+pub add-size-in-Until : need.add-size-in-Until
+add-size-in-Until t c =
+    let a = across _ (c .pre .whole) _ (c .pre .within) _ (c .pre .counted) Until (c .in-Until .is) until refl (λ f g s. refl) in
+    omega (arith, behind _ (c .pre .whole) _ (c .pre .within) _ (c .pre .counted) a (c .evaluate-last-in-Until .ensures) .fits, c .evaluate-first-in-Until .ensures .size-is)
+
+pub add-size-in-Until-2 : need.add-size-in-Until-2
+add-size-in-Until-2 t c =
+    let a = across _ (c .pre .whole) _ (c .pre .within) _ (c .pre .counted) Until (c .in-Until .is) until refl (λ f g s. refl) in
+    omega (arith, behind _ (c .pre .whole) _ (c .pre .within) _ (c .pre .counted) a (c .evaluate-last-in-Until .ensures) .fits, c .evaluate-first-in-Until .ensures .size-is)
