@@ -1,4 +1,6 @@
 // The book of a session: a record for each open state, in 256 places. Relies on meaning and plant.
+#![tactic(auto)]
+
 pub mod book;
 pub mod edits;
 mod lookups;

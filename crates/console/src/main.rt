@@ -1,5 +1,7 @@
 // The console: reads a script of calls from standard input, and prints an answer for each.
 // Relies on script, refusal, formula and text.
+#![tactic(auto)]
+
 mod answers;
 mod state;
 

@@ -1,4 +1,5 @@
 // The language of formula text: its signs, and what can be wrong with a text. Relies on refusal and formula.
+#![tactic(auto)]
 
 // What a letter names by a number: `pN`, `eN`, `[N]`.
 #[derive(Clone, Copy)]

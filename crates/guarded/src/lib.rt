@@ -1,4 +1,5 @@
 // The parts of a rule plant, and the model that they make. Mathematics and one plain struct, no code. Relies on meaning and plant.
+#![tactic(auto)]
 
 // What was read: variables with sizes, and rules that need and set their values.
 #[derive(Drop)]

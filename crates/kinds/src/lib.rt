@@ -1,4 +1,6 @@
 // A plant of any kind, for callers that learn the kind as they go. Relies on plant, table and rule.
+#![tactic(auto)]
+
 ghost use Rattle.std.specs.Prelude.{◌≡◌};
 ghost use Rattle.kinds.specs.Kinds.{any_model, any_lawful};
 

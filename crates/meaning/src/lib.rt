@@ -1,4 +1,6 @@
 // What formulas mean on runs of a system, and a test that decides it. Relies on formula.
+#![tactic(auto)]
+
 ghost use Rattle.meaning.specs.Claims.{Decided, Twelve};
 
 // An arc of a state: the event that it bears, and the state that it leads to.

@@ -1,4 +1,6 @@
 // Plants: finite labelled transition systems, asked state by state. Relies on refusal and meaning.
+#![tactic(auto)]
+
 ghost use Rattle.std.specs.Prelude.{◌≡◌, length};
 ghost use Rattle.plant.specs.Model.{Model, Lawful, initial_at, arc_at};
 ghost use Rattle.plant.specs.declared.Failure.TheVariants.{Refused as ByRule, OutOfMemory};

@@ -1,5 +1,7 @@
 // The console: reads a script of calls from standard input, and prints an answer for each.
 // Relies on script, printing, and whatever the calls make: formula, text, table, rule, kinds.
+#![tactic(auto)]
+
 mod asking;
 mod help;
 mod making;

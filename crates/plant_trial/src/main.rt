@@ -1,4 +1,6 @@
 // How long tables of growing size take to read, with the argument `read`; nothing without. Relies on table.
+#![tactic(auto)]
+
 use plant::Plant;
 use std::alloc::{AllocError, Global};
 use std::time::Instant;

@@ -1,6 +1,8 @@
 // Why a call is not granted: a cause and a place. Relies on nothing.
 // A layer that brings causes of its own adds its cases here and to specs/Causes.antt;
 // contracts elsewhere speak of `Gives`, and their proofs go by the number alone.
+#![tactic(auto)]
+
 ghost use Rattle.std.specs.Prelude.{◌≡◌};
 ghost use Rattle.refusal.specs.Causes.{number_of, layer_of, Gives};
 

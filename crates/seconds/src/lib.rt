@@ -1,5 +1,7 @@
 // Second systems: what agrees with what is known of a plant, the free part behind its closed states, and the three verdicts.
 // Mathematics: each function carries one theorem. Relies on formula, meaning and tableau.
+#![tactic(auto)]
+
 ghost use Rattle.seconds.specs.Samples.{Nine};
 ghost use Rattle.seconds.specs.Claims.{Letters, Tests, FreeEdges, FreePart, FreeNumbers, SecondPart, FirstIsSecond};
 ghost use Rattle.seconds.specs.Claims.{BrokenInAll, DoubtParts, HoldsElse, ExactlyOne, BrokenNumbers, SpoiledNumbers, SearchesDecide};

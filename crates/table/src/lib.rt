@@ -1,4 +1,6 @@
 // Table plants: every state and every arc is written down in words. Relies on refusal, meaning and plant.
+#![tactic(auto)]
+
 mod checks;
 pub mod parts;
 mod questions;

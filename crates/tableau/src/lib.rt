@@ -1,4 +1,6 @@
 // Atoms along paths, lassos of them, and the open part as a graph. Mathematics: each function carries one theorem. Relies on formula and meaning.
+#![tactic(auto)]
+
 ghost use Rattle.tableau.specs.Claims.{Coherence, Existence, Reverse, Backward, OneEnd, Coded, OneCode, RunPart, OpenPart, ReadOff, OpenNumbers, NumbersRun};
 
 // What atoms along a path make of a formula is its truth there.

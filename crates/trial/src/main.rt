@@ -1,5 +1,7 @@
 // Tries runs: without arguments the worked examples, and with the argument `time` how long the test takes on long runs.
 // Relies on formula, text, meaning and rows.
+#![tactic(auto)]
+
 mod plants;
 
 use meaning::{examples_stand, test_decides};
