@@ -3,10 +3,10 @@ use Rattle.std.proofs.lemmas.List.{nil_from_length}
 use Rattle.plant_script.proofs.Cuts.{cut_length}
 use Rattle.plant_script.proofs.lines.first_line.Goals as goal
 
-pub returns-then-is-empty : goal.returns-then-is-empty
-returns-then-is-empty c = record { cases = nil_from_length c.args.script.now (search rules); less = tt }
+pub returns-then-is_empty : goal.returns-then-is_empty
+returns-then-is_empty c = record { cases = nil_from_length c.args.script.now (search rules); less = tt }
 
-pub returns-else-is-empty : goal.returns-else-is-empty
-returns-else-is-empty c =
+pub returns-else-is_empty : goal.returns-else-is_empty
+returns-else-is_empty c =
     let some : 0 < length c.args.script.now = search rules in
     record { cases = c.cut.ensures; less = cut_length c.cut.ensures some }

@@ -3,15 +3,15 @@ use Rattle.std.proofs.lemmas.List.{drop_more, drop_all}
 use Rattle.plant_script.proofs.Digits.{Sofar, one_more, no_more, no_way}
 use Rattle.plant_script.proofs.numerals.number.Goals as goal
 
-pub returns-in-err-n : goal.returns-in-err-n
-returns-in-err-n c =
+pub returns-in_err-n : goal.returns-in_err-n
+returns-in_err-n c =
     let here = drop_more c.args.word.now c.loop-b.b-index 0 c.loop-b-test.true in
-    rw c.from-residual.ensures (no_way (subst (Sofar _ _) here c.loop-b.invariant.0) c.in-err-n.ensures)
+    rw c.from_residual.ensures (no_way (subst (Sofar _ _) here c.loop-b.invariant.0) c.in_err-n.ensures)
 
 pub loop-b-preserved : goal.loop-b-preserved
 loop-b-preserved c =
     let here = drop_more c.args.word.now c.loop-b.b-index 0 c.loop-b-test.true in
-    let told = c.in-ok-n.ensures in (
+    let told = c.in_ok-n.ensures in (
       subst (λ n. Sofar c.args.word.now n (drop (c.loop-b.b-index + 1) c.args.word.now)) (sym told.1) (one_more (subst (Sofar _ _) here c.loop-b.invariant.0) told.0.0),
       omega (arith, told.0.1, told.1),
     )

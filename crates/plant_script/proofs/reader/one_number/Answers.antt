@@ -5,20 +5,20 @@ use Rattle.plant_script.specs.Values.{Numbers}
 use Rattle.plant_script.proofs.Once.{numbers_once, just_one}
 use Rattle.plant_script.proofs.reader.one_number.Goals as goal
 
-pub returns-in-default : goal.returns-in-default
-returns-in-default c = λ n g. MatchOption-at_none _ _ c.in-default.is c.in-ok-all.ensures (n ∷ []) g
+pub returns-in_default : goal.returns-in_default
+returns-in_default c = λ n g. MatchOption-at_none _ _ c.in_default.is c.in_ok-all.ensures (n ∷ []) g
 
 pub returns-then-len-ne1 : goal.returns-then-len-ne1
 returns-then-len-ne1 c = λ n g.
     let all = c.in-Some.all in
-    let has = MatchOption-at_some _ _ all c.in-Some.is c.in-ok-all.ensures in
+    let has = MatchOption-at_some _ _ all c.in-Some.is c.in_ok-all.ensures in
     let same = ap length (numbers_once c.args.rest.now (vec_items all) (n ∷ []) has g) in
     c.if-len-ne1.true (c.len.ensures ∙ all.ok.0 ∙ same)
 
 pub returns : goal.returns
 returns c =
     let all = c.in-Some.all in
-    let has = MatchOption-at_some _ _ all c.in-Some.is c.in-ok-all.ensures in
+    let has = MatchOption-at_some _ _ all c.in-Some.is c.in_ok-all.ensures in
     let long : length (vec_items all) ≡ 1 = omega (arith, c.if-len-ne1.false, c.len.ensures, all.ok.0) in
     let first = get_or_read_under (vec_items all) 0 all.len c.index.result.now 0 c.index.ensures (omega (arith, long, all.ok.0)) all.ok.0 in
     subst (Numbers c.args.rest.now) (just_one (vec_items all) long ∙ ap (λ x. x ∷ []) (sym first)) has

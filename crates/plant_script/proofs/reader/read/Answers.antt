@@ -7,17 +7,17 @@ use Rattle.plant_script.proofs.Cuts.{cut_once}
 use Rattle.plant_script.proofs.Once.{plain, given_at}
 use Rattle.plant_script.proofs.reader.read.Goals as goal
 
-pub returns-then-is-skipped : goal.returns-then-is-skipped
-returns-then-is-skipped c = record { answer = search rules; plain = plain c.args.line.now }
+pub returns-then-is_skipped : goal.returns-then-is_skipped
+returns-then-is_skipped c = record { answer = search rules; plain = plain c.args.line.now }
 
-pub returns-in-default : goal.returns-in-default
-returns-in-default c = record {
-  answer = (search rules, λ m a. c.in-default.ensures a.word (cut_once c.cut.ensures a.cut).0);
+pub returns-in_default : goal.returns-in_default
+returns-in_default c = record {
+  answer = (search rules, λ m a. c.in_default.ensures a.word (cut_once c.cut.ensures a.cut).0);
   plain = plain c.args.line.now;
 }
 
-pub returns-in-err-call : goal.returns-in-err-call
-returns-in-err-call c = record { answer = IfOk-from_err _ _ c.from-residual.ensures.0; plain = plain c.args.line.now }
+pub returns-in_err-call : goal.returns-in_err-call
+returns-in_err-call c = record { answer = IfOk-from_err _ _ c.from_residual.ensures.0; plain = plain c.args.line.now }
 
 pub returns-in-Some-2 : goal.returns-in-Some-2
 returns-in-Some-2 c = record {
@@ -25,13 +25,13 @@ returns-in-Some-2 c = record {
     word = c.in-Some.word;
     rest = c.cut.result.1.now;
     cut = subst (λ l. Cut 32 c.args.line.now l c.cut.result.1.now) c.in-Some.ensures c.cut.ensures;
-    given = MatchOption-at_some _ _ _ c.in-Some-2.is c.in-ok-call.ensures;
+    given = MatchOption-at_some _ _ _ c.in-Some-2.is c.in_ok-call.ensures;
   };
   plain = plain c.args.line.now;
 }
 
 pub returns-in-None : goal.returns-in-None
 returns-in-None c = record {
-  answer = (search rules, λ m a. MatchOption-at_none _ _ c.in-None.is c.in-ok-call.ensures m (given_at c.in-Some.word c.cut.ensures c.in-Some.ensures a));
+  answer = (search rules, λ m a. MatchOption-at_none _ _ c.in-None.is c.in_ok-call.ensures m (given_at c.in-Some.word c.cut.ensures c.in-Some.ensures a));
   plain = plain c.args.line.now;
 }

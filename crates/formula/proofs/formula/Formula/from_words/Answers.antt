@@ -22,8 +22,8 @@ record Only (ws : List ℕ) (r : Refusal) : Type 0 where
 refusing : {ws : List ℕ} {r : Refusal} → Refused ws r → Only ws r
 refusing {ws} {r} h = record { answer = h; only = λ e k. ap (λ x. Err x) (one_refusal r e h k); one = one_tree }
 
-pub returns-in-default : goal.returns-in-default
-returns-in-default c = let o = refusing (by_length c.in-default.ensures c.at.ensures) in record { answer = o.answer; only = o.only; tree = o.one }
+pub returns-in_default : goal.returns-in_default
+returns-in_default c = let o = refusing (by_length c.in_default.ensures c.at.ensures) in record { answer = o.answer; only = o.only; tree = o.one }
 
 pub returns-in-Err : goal.returns-in-Err
 returns-in-Err c = let o = refusing (by_entry c.in-Some.ensures.1 c.in-Err.i c.in-Err.ensures c.at-in-Err.ensures) in record { answer = o.answer; only = o.only; tree = o.one }
@@ -52,19 +52,19 @@ returns-then-weigh-gt10 c =
     let o =
     refusing
     (by_weight c.in-Some.ensures.1 (take n es) c.in-Ok.ensures.1 (tree (take n es))
-    (one_whole n es c.weigh.result c.in-default-joined.ensures c.weigh.ensures)
-    (omega (arith, c.if-weigh-gt10.true, weight_is n es c.weigh.result c.in-default-joined.ensures c.weigh.ensures))
+    (one_whole n es c.weigh.result c.in_default-joined.ensures c.weigh.ensures)
+    (omega (arith, c.if-weigh-gt10.true, weight_is n es c.weigh.result c.in_default-joined.ensures c.weigh.ensures))
     c.at-then-weigh-gt10.ensures) in
     record { answer = o.answer; only = o.only; tree = o.one }
 
-pub invariant-of-result : goal.invariant-of-result
-invariant-of-result c =
+pub invariant_of-result : goal.invariant_of-result
+invariant_of-result c =
     let n = c.in-Some.n in
     let es = c.in-Ok.entries in
     let w = c.weigh.result in
-    (c.in-Ok.ensures.0, (omega (arith, c.in-Some.ensures.0, c.in-Some.ensures.1.high), (one_whole n es w c.in-default-joined.ensures c.weigh.ensures, (lists_in_range c.in-Ok.ensures.1, (omega (arith, c.if-weigh-gt10.false, weight_is n es w c.in-default-joined.ensures c.weigh.ensures), tt)))))
+    (c.in-Ok.ensures.0, (omega (arith, c.in-Some.ensures.0, c.in-Some.ensures.1.high), (one_whole n es w c.in_default-joined.ensures c.weigh.ensures, (lists_in_range c.in-Ok.ensures.1, (omega (arith, c.if-weigh-gt10.false, weight_is n es w c.in_default-joined.ensures c.weigh.ensures), tt)))))
 
 pub returns : goal.returns
 returns c =
-    let m = made c.in-Some.n c.in-Ok.entries c.weigh.result c.in-default-joined.ensures c.weigh.ensures c.in-Some.ensures.1 c.in-Ok.ensures.1 c.if-weigh-gt10.false in
+    let m = made c.in-Some.n c.in-Ok.entries c.weigh.result c.in_default-joined.ensures c.weigh.ensures c.in-Some.ensures.1 c.in-Ok.ensures.1 c.if-weigh-gt10.false in
     record { answer = m; only = λ e k. absurd (not_both _ e m k); tree = one_tree }
