@@ -62,7 +62,13 @@ invariant_of-result c =
     let n = c.in-Some.n in
     let es = c.in-Ok.entries in
     let w = c.weigh.result in
-    (c.in-Ok.ensures.0, (omega (arith, c.in-Some.ensures.0, c.in-Some.ensures.1.high), (one_whole n es w c.in_default-joined.ensures c.weigh.ensures, (lists_in_range c.in-Ok.ensures.1, (omega (arith, c.if-weigh-gt10.false, weight_is n es w c.in_default-joined.ensures c.weigh.ensures), tt)))))
+    record {
+      full = c.in-Ok.ensures.0;
+      fits = omega (arith, c.in-Some.ensures.0, c.in-Some.ensures.1.high);
+      whole = one_whole n es w c.in_default-joined.ensures c.weigh.ensures;
+      ranged = lists_in_range c.in-Ok.ensures.1;
+      few = omega (arith, c.if-weigh-gt10.false, weight_is n es w c.in_default-joined.ensures c.weigh.ensures);
+    }
 
 pub returns : goal.returns
 returns c =
