@@ -11,9 +11,9 @@ returns-in-Some-first_word c = λ m g.
 pub returns-in-None-3 : goal.returns-in-None-3
 returns-in-None-3 c = λ m g.
     let is = subst (λ w. Given w c.args.rest.now m) c.in-One.is g in
-    MatchOption-at_none _ _ c.in-None-3.is c.in_ok-n.ensures is.0 is.2
+    MatchOption-at_none _ _ c.in-None-3.is c.in_ok-n-in-One.ensures is.0 is.2
 
 pub returns-in-None-4 : goal.returns-in-None-4
 returns-in-None-4 c = λ m g.
     let is = subst (λ w. Given w c.args.rest.now m) c.in-Arc.is g in
-    MatchOption-at_none _ _ c.in-None-4.is c.in_ok-state.ensures is.0 is.1 is.3
+    MatchOption-at_none _ _ c.in-None-4.is c.in_ok-state-in-Arc.ensures is.0 is.1 is.3

@@ -8,56 +8,56 @@ use Rattle.text.proofs.reader.Reader.+phrase.Goals as goal
 use Rattle.text.proofs.reader.Reader.+phrase.Goals.{in-33, in-X, in-F, in-G}
 
 pub returns-in-T : goal.returns-in-T
-returns-in-T t c = is_truth (letter_is c.in-T.is c.in-ok-next.ensures) c.add.ensures
+returns-in-T t c = is_truth (letter_is c.in-T.is c.in_ok-next.ensures) c.add.ensures
 
 pub returns-in-p : goal.returns-in-p
-returns-in-p t c = name_cases c.args.self.now c.next.new.self c.named.new.self c.args.out.now.entries c.args.out.now.count c.named.new.out.entries c.named.new.out.count c.named.result Fact (letter_is c.in-p.is c.in-ok-next.ensures) c.named.ensures
+returns-in-p t c = name_cases c.args.self.now c.next.new.self c.named.new.self c.args.out.now.entries c.args.out.now.count c.named.new.out.entries c.named.new.out.count c.named.result Fact (letter_is c.in-p.is c.in_ok-next.ensures) c.named.ensures
 
 pub returns-in-e : goal.returns-in-e
-returns-in-e t c = name_cases c.args.self.now c.next.new.self c.named-in-e.new.self c.args.out.now.entries c.args.out.now.count c.named-in-e.new.out.entries c.named-in-e.new.out.count c.named-in-e.result Enabled (letter_is c.in-e.is c.in-ok-next.ensures) c.named-in-e.ensures
+returns-in-e t c = name_cases c.args.self.now c.next.new.self c.named-in-e.new.self c.args.out.now.entries c.args.out.now.count c.named-in-e.new.out.entries c.named-in-e.new.out.count c.named-in-e.result Enabled (letter_is c.in-e.is c.in_ok-next.ensures) c.named-in-e.ensures
 
 pub returns-in-91 : goal.returns-in-91
-returns-in-91 t c = name_cases c.args.self.now c.next.new.self c.named-in-91.new.self c.args.out.now.entries c.args.out.now.count c.named-in-91.new.out.entries c.named-in-91.new.out.count c.named-in-91.result Taken (letter_is c.in-91.is c.in-ok-next.ensures) c.named-in-91.ensures
+returns-in-91 t c = name_cases c.args.self.now c.next.new.self c.named-in-91.new.self c.args.out.now.entries c.args.out.now.count c.named-in-91.new.out.entries c.named-in-91.new.out.count c.named-in-91.result Taken (letter_is c.in-91.is c.in_ok-next.ensures) c.named-in-91.ensures
 
-pub returns-in-err-phrase : goal.returns-in-err-phrase
-returns-in-err-phrase t c = let q = err_from_is_err_and c.from-residual-in-err-phrase.result c.from-residual-in-err-phrase.ensures.1 in rw (q.1, q.2) (fails_one (letter_is c.in-40.is c.in-ok-next.ensures) c.in-err-phrase.ensures)
+pub returns-in_err-phrase : goal.returns-in_err-phrase
+returns-in_err-phrase t c = let q = err_from_is_err_and c.from_residual-in_err-phrase.result c.from_residual-in_err-phrase.ensures.1 in rw (q.1, q.2) (fails_one (letter_is c.in-40.is c.in_ok-next.ensures) c.in_err-phrase.ensures)
 
-pub returns-in-err-joint : goal.returns-in-err-joint
-returns-in-err-joint t c = let q = err_from_is_err_and c.from-residual-in-err-joint.result c.from-residual-in-err-joint.ensures.1 in rw (q.1, q.2) (fails_op (letter_is c.in-40.is c.in-ok-next.ensures) c.in-ok-phrase.ensures.took c.in-err-joint.ensures)
+pub returns-in_err-joint : goal.returns-in_err-joint
+returns-in_err-joint t c = let q = err_from_is_err_and c.from_residual-in_err-joint.result c.from_residual-in_err-joint.ensures.1 in rw (q.1, q.2) (fails_op (letter_is c.in-40.is c.in_ok-next.ensures) c.in_ok-phrase.ensures.took c.in_err-joint.ensures)
 
-pub returns-in-err-phrase-2 : goal.returns-in-err-phrase-2
-returns-in-err-phrase-2 t c = let q = err_from_is_err_and c.from-residual-in-err-phrase-2.result c.from-residual-in-err-phrase-2.ensures.1 in rw (q.1, q.2) (fails_two (letter_is c.in-40.is c.in-ok-next.ensures) c.in-ok-phrase.ensures.took c.in-ok-joint.ensures c.in-err-phrase-2.ensures)
+pub returns-in_err-phrase-2 : goal.returns-in_err-phrase-2
+returns-in_err-phrase-2 t c = let q = err_from_is_err_and c.from_residual-in_err-phrase-2.result c.from_residual-in_err-phrase-2.ensures.1 in rw (q.1, q.2) (fails_two (letter_is c.in-40.is c.in_ok-next.ensures) c.in_ok-phrase.ensures.took c.in_ok-joint.ensures c.in_err-phrase-2.ensures)
 
-pub returns-in-err-expect : goal.returns-in-err-expect
-returns-in-err-expect t c = let q = err_from_is_err_and c.from-residual-in-err-expect.result c.from-residual-in-err-expect.ensures.1 in rw (q.1, q.2) (fails_shut (letter_is c.in-40.is c.in-ok-next.ensures) c.in-ok-phrase.ensures.took c.in-ok-joint.ensures c.in-ok-phrase-2.ensures.took c.in-err-expect.ensures)
+pub returns-in_err-expect : goal.returns-in_err-expect
+returns-in_err-expect t c = let q = err_from_is_err_and c.from_residual-in_err-expect.result c.from_residual-in_err-expect.ensures.1 in rw (q.1, q.2) (fails_shut (letter_is c.in-40.is c.in_ok-next.ensures) c.in_ok-phrase.ensures.took c.in_ok-joint.ensures c.in_ok-phrase-2.ensures.took c.in_err-expect.ensures)
 
 pub returns-in-40 : goal.returns-in-40
-returns-in-40 t c = is_two c.in-ok-joint.joint (letter_is c.in-40.is c.in-ok-next.ensures) c.in-ok-phrase.ensures c.in-ok-joint.ensures c.add-between.ensures c.in-ok-phrase-2.ensures c.in-ok-expect.ensures c.add-behind.ensures
+returns-in-40 t c = is_two c.in_ok-joint.joint (letter_is c.in-40.is c.in_ok-next.ensures) c.in_ok-phrase.ensures c.in_ok-joint.ensures c.add_between.ensures c.in_ok-phrase-2.ensures c.in_ok-expect.ensures c.add_behind.ensures
 
-pub returns-in-default : goal.returns-in-default
-returns-in-default t c = fails_first c.in-ok-next.ensures (none_begins c.in-ok-next.field-0 (λ eq. omega arith) (λ eq. omega arith) (λ eq. omega arith) (λ eq. omega arith) (λ eq. omega arith) (λ eq. omega arith) (λ eq. omega arith) (λ eq. omega arith) (λ eq. omega arith))
+pub returns-in_default : goal.returns-in_default
+returns-in_default t c = fails_first c.in_ok-next.ensures (none_begins c.in_ok-next.field-0 (λ eq. omega arith) (λ eq. omega arith) (λ eq. omega arith) (λ eq. omega arith) (λ eq. omega arith) (λ eq. omega arith) (λ eq. omega arith) (λ eq. omega arith) (λ eq. omega arith))
 
-pub returns-in-err-phrase-3 : goal.returns-in-err-phrase-3
-returns-in-err-phrase-3 t c =
-    let q = err_from_is_err_and c.from-residual-in-err-phrase-3.result c.from-residual-in-err-phrase-3.ensures.1 in
+pub returns-in_err-phrase-3 : goal.returns-in_err-phrase-3
+returns-in_err-phrase-3 t c =
+    let q = err_from_is_err_and c.from_residual-in_err-phrase-3.result c.from_residual-in_err-phrase-3.ensures.1 in
     let x = c.match-branch-2.prefix in
-    let at : c.in-ok-next.field-0 ≡ letter x =
+    let at : c.in_ok-next.field-0 ≡ letter x =
     elim c.match-branch-2.branch [
       | in-33 w ↦ w.in-33.is ∙ ap letter (sym w.prefix-is)
       | in-X w ↦ w.in-X.is ∙ ap letter (sym w.prefix-is)
       | in-F w ↦ w.in-F.is ∙ ap letter (sym w.prefix-is)
       | in-G w ↦ w.in-G.is ∙ ap letter (sym w.prefix-is)
     ] in
-    rw (q.1, q.2) (fails_prefix x (letter_is at c.in-ok-next.ensures) c.in-err-phrase-3.ensures)
+    rw (q.1, q.2) (fails_prefix x (letter_is at c.in_ok-next.ensures) c.in_err-phrase-3.ensures)
 
 pub returns : goal.returns
 returns t c =
     let x = c.match-branch-2.prefix in
-    let at : c.in-ok-next.field-0 ≡ letter x =
+    let at : c.in_ok-next.field-0 ≡ letter x =
     elim c.match-branch-2.branch [
       | in-33 w ↦ w.in-33.is ∙ ap letter (sym w.prefix-is)
       | in-X w ↦ w.in-X.is ∙ ap letter (sym w.prefix-is)
       | in-F w ↦ w.in-F.is ∙ ap letter (sym w.prefix-is)
       | in-G w ↦ w.in-G.is ∙ ap letter (sym w.prefix-is)
     ] in
-    is_prefix x (letter_is at c.in-ok-next.ensures) c.add-front.ensures c.in-ok-phrase-3.ensures c.add-rear.ensures
+    is_prefix x (letter_is at c.in_ok-next.ensures) c.add_front.ensures c.in_ok-phrase-3.ensures c.add_rear.ensures

@@ -13,18 +13,18 @@ at {a} {b} {r} {r'} {q} eq h = subst (λ a. (q < strict a) × Took (num a ∷ []
 
 pub returns-in-Fact : goal.returns-in-Fact
 returns-in-Fact c =
-    let h = at c.in-Fact.is c.in-ok-n.ensures in
+    let h = at c.in-Fact.is c.in_ok-n.ensures in
     subst (λ a. Named a c.args.self.now c.number.new.self c.args.out.now.entries c.args.out.now.count c.add.new.self.entries c.add.new.self.count) (sym c.in-Fact.is)
     (fact_named h.0 h.1 c.add.ensures)
 
 pub returns-in-Enabled : goal.returns-in-Enabled
 returns-in-Enabled c =
-    let h = at c.in-Enabled.is c.in-ok-n.ensures in
+    let h = at c.in-Enabled.is c.in_ok-n.ensures in
     subst (λ a. Named a c.args.self.now c.number.new.self c.args.out.now.entries c.args.out.now.count c.add-in-Enabled.new.self.entries c.add-in-Enabled.new.self.count) (sym c.in-Enabled.is)
     (enabled_named h.0 h.1 c.add-in-Enabled.ensures)
 
-pub returns-in-ok-expect : goal.returns-in-ok-expect
-returns-in-ok-expect c =
-    let h = at c.in-Taken.is c.in-ok-n.ensures in
+pub returns-in_ok-expect : goal.returns-in_ok-expect
+returns-in_ok-expect c =
+    let h = at c.in-Taken.is c.in_ok-n.ensures in
     subst (λ a. Named a c.args.self.now c.expect.new.self c.args.out.now.entries c.args.out.now.count c.add-in-Taken.new.self.entries c.add-in-Taken.new.self.count) (sym c.in-Taken.is)
-    (taken_named h.0 h.1 c.in-ok-expect.ensures c.add-in-Taken.ensures)
+    (taken_named h.0 h.1 c.in_ok-expect.ensures c.add-in-Taken.ensures)
