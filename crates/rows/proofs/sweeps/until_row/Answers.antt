@@ -8,8 +8,8 @@ use Rattle.rows.proofs.sweeps.until_row.Goals as goal
 pub returns-then-cells-out-eq1 : goal.returns-then-cells-out-eq1
 returns-then-cells-out-eq1 c =
     let a = c.args in
-    let once = c.sweep-row.ensures in
-    let twice = c.sweep-row-then-cells-out-eq1.ensures in
+    let once = c.sweep_row.ensures in
+    let twice = c.sweep_row-then-cells-out-eq1.ensures in
     let again = sym (eq-eqb _ 1 c.if-cells-out-eq1.true) ∙ once.row a.back c.if-back-m.true in
     record {
       row = λ p h.

@@ -16,7 +16,7 @@ fill-requires g c =
     let w = whole c.args.formula.now n m c.len-n.ensures.value in
     record {
       within = omega (arith, c.len-n.ensures.value, view_some c.args.formula.now);
-      below = omega (arith, w.size-is, w.last);
+      below = omega (arith, w.size_is, w.last);
       room = omega (arith, w.last, c.if-cells-needed.false, c.in-Some.ensures.1);
     }
 

@@ -9,11 +9,11 @@ row-requires g t c = record {
   small = ranged_at c.args.formula.now _ c.entries.ensures _ c.requires.within;
 }
 
-pub overflow-sub-last : goal.overflow-sub-last
-overflow-sub-last g t c = (one_fits c.args.formula.now _ c.entries.ensures _ c.requires.within c.in-Not.is c.requires.below).high
+pub overflow_sub-last : goal.overflow_sub-last
+overflow_sub-last g t c = (one_fits c.args.formula.now _ c.entries.ensures _ c.requires.within c.in-Not.is c.requires.below).high
 
-pub overflow-sub-at : goal.overflow-sub-at
-overflow-sub-at g t c = (one_fits c.args.formula.now _ c.entries.ensures _ c.requires.within c.in-Not.is c.requires.below).some
+pub overflow_sub-at : goal.overflow_sub-at
+overflow_sub-at g t c = (one_fits c.args.formula.now _ c.entries.ensures _ c.requires.within c.in-Not.is c.requires.below).some
 
 pub fill-requires : goal.fill-requires
 fill-requires g t c κs within =
@@ -28,37 +28,37 @@ row-requires-in-Not g t c =
       small = ranged_at c.args.formula.now _ c.entries.ensures _ c.requires.within;
     }
 
-pub overflow-sub-at-in-Or : goal.overflow-sub-at-in-Or
-overflow-sub-at-in-Or g t c = two_some c.args.formula.now _ c.entries.ensures _ c.requires.within c.in-Or.is
+pub overflow_sub-at-in-Or : goal.overflow_sub-at-in-Or
+overflow_sub-at-in-Or g t c = two_some c.args.formula.now _ c.entries.ensures _ c.requires.within c.in-Or.is
 
-pub overflow-sub-last-in-Or : goal.overflow-sub-last-in-Or
-overflow-sub-last-in-Or g t c =
+pub overflow_sub-last-in-Or : goal.overflow_sub-last-in-Or
+overflow_sub-last-in-Or g t c =
     let f = two_fits c.args.formula.now _ c.entries.ensures _ c.requires.within c.in-Some.skip c.in-Or.is c.in-Some.ensures.1 c.requires.below in
     omega (arith, f.low, f.first)
 
-pub overflow-mul-first : goal.overflow-mul-first
-overflow-mul-first g t c =
+pub overflow_mul-first : goal.overflow_mul-first
+overflow_mul-first g t c =
     let f = two_fits c.args.formula.now _ c.entries.ensures _ c.requires.within c.in-Some.skip c.in-Or.is c.in-Some.ensures.1 c.requires.below in
     Fits-le (omega (arith, f.low)) c.ranges.out
 
-pub overflow-sub-first : goal.overflow-sub-first
-overflow-sub-first g t c =
+pub overflow_sub-first : goal.overflow_sub-first
+overflow_sub-first g t c =
     let f = two_fits c.args.formula.now _ c.entries.ensures _ c.requires.within c.in-Some.skip c.in-Or.is c.in-Some.ensures.1 c.requires.below in
     omega (arith, f.low, f.first)
 
-pub overflow-sub-at-in-Or-2 : goal.overflow-sub-at-in-Or-2
-overflow-sub-at-in-Or-2 g t c = two_some c.args.formula.now _ c.entries.ensures _ c.requires.within c.in-Or.is
+pub overflow_sub-at-in-Or-2 : goal.overflow_sub-at-in-Or-2
+overflow_sub-at-in-Or-2 g t c = two_some c.args.formula.now _ c.entries.ensures _ c.requires.within c.in-Or.is
 
-pub overflow-sub-at-in-Or-3 : goal.overflow-sub-at-in-Or-3
-overflow-sub-at-in-Or-3 g t c = (two_fits c.args.formula.now _ c.entries.ensures _ c.requires.within c.in-Some.skip c.in-Or.is c.in-Some.ensures.1 c.requires.below).room
+pub overflow_sub-at-in-Or-3 : goal.overflow_sub-at-in-Or-3
+overflow_sub-at-in-Or-3 g t c = (two_fits c.args.formula.now _ c.entries.ensures _ c.requires.within c.in-Some.skip c.in-Or.is c.in-Some.ensures.1 c.requires.below).room
 
 pub fill-requires-in-Or : goal.fill-requires-in-Or
 fill-requires-in-Or g t c κs within =
     let f = two_fits c.args.formula.now _ c.entries.ensures _ c.requires.within c.in-Some.skip c.in-Or.is c.in-Some.ensures.1 c.requires.below in
     (omega (arith, f.some, c.decreases), (within, (omega (arith, c.requires.within), (omega (arith, f.low, f.first, f.last), omega (arith, f.low, f.first, c.requires.room)))))
 
-pub overflow-sub-at-in-Or-4 : goal.overflow-sub-at-in-Or-4
-overflow-sub-at-in-Or-4 g t c = two_some c.args.formula.now _ c.entries.ensures _ c.requires.within c.in-Or.is
+pub overflow_sub-at-in-Or-4 : goal.overflow_sub-at-in-Or-4
+overflow_sub-at-in-Or-4 g t c = two_some c.args.formula.now _ c.entries.ensures _ c.requires.within c.in-Or.is
 
 pub fill-requires-in-Or-2 : goal.fill-requires-in-Or-2
 fill-requires-in-Or-2 g t c κs within =
