@@ -35,16 +35,14 @@ pub invariant_of-result : goal.invariant_of-result
 invariant_of-result c =
     let q = c.in_default.ensures in
     let few = c.if-out-gt48.false in
-    let full = c.whole.new.out.full in (
-      full,
-      (
-        few,
-        (
-          one_whole q.0 q.1 c.new-out.ensures full few,
-          (all_in_range q.0 q.1 c.new-out.ensures full few, (omega (arith, c.if-weigh-gt10.false, weighed q.0 q.1 c.new-out.ensures full few c.weigh.ensures), tt)),
-        ),
-      ),
-    )
+    let full = c.whole.new.out.full in
+    record {
+      full = full;
+      fits = few;
+      whole = one_whole q.0 q.1 c.new-out.ensures full few;
+      ranged = all_in_range q.0 q.1 c.new-out.ensures full few;
+      few = omega (arith, c.if-weigh-gt10.false, weighed q.0 q.1 c.new-out.ensures full few c.weigh.ensures);
+    }
 
 pub returns : goal.returns
 returns c =

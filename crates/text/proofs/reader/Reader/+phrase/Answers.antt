@@ -19,27 +19,27 @@ returns-in-e t c = name_cases c.args.self.now c.next.new.self c.named-in-e.new.s
 pub returns-in-91 : goal.returns-in-91
 returns-in-91 t c = name_cases c.args.self.now c.next.new.self c.named-in-91.new.self c.args.out.now.entries c.args.out.now.count c.named-in-91.new.out.entries c.named-in-91.new.out.count c.named-in-91.result Taken (letter_is c.in-91.is c.in_ok-next.ensures) c.named-in-91.ensures
 
-pub returns-in_err-phrase : goal.returns-in_err-phrase
-returns-in_err-phrase t c = let q = err_from_is_err_and c.from_residual-in_err-phrase.result c.from_residual-in_err-phrase.ensures.1 in rw (q.1, q.2) (fails_one (letter_is c.in-40.is c.in_ok-next.ensures) c.in_err-phrase.ensures)
+pub returns-in_err-phrase-in-40 : goal.returns-in_err-phrase-in-40
+returns-in_err-phrase-in-40 t c = let q = err_from_is_err_and c.from_residual-in_err-phrase-in-40.result c.from_residual-in_err-phrase-in-40.ensures.1 in rw (q.1, q.2) (fails_one (letter_is c.in-40.is c.in_ok-next.ensures) c.in_err-phrase-in-40.ensures)
 
-pub returns-in_err-joint : goal.returns-in_err-joint
-returns-in_err-joint t c = let q = err_from_is_err_and c.from_residual-in_err-joint.result c.from_residual-in_err-joint.ensures.1 in rw (q.1, q.2) (fails_op (letter_is c.in-40.is c.in_ok-next.ensures) c.in_ok-phrase.ensures.took c.in_err-joint.ensures)
+pub returns-in_err-joint-in-40 : goal.returns-in_err-joint-in-40
+returns-in_err-joint-in-40 t c = let q = err_from_is_err_and c.from_residual-in_err-joint-in-40.result c.from_residual-in_err-joint-in-40.ensures.1 in rw (q.1, q.2) (fails_op (letter_is c.in-40.is c.in_ok-next.ensures) c.in_ok-phrase-in-40.ensures.took c.in_err-joint-in-40.ensures)
 
-pub returns-in_err-phrase-2 : goal.returns-in_err-phrase-2
-returns-in_err-phrase-2 t c = let q = err_from_is_err_and c.from_residual-in_err-phrase-2.result c.from_residual-in_err-phrase-2.ensures.1 in rw (q.1, q.2) (fails_two (letter_is c.in-40.is c.in_ok-next.ensures) c.in_ok-phrase.ensures.took c.in_ok-joint.ensures c.in_err-phrase-2.ensures)
+pub returns-in_err-phrase-in-40-2 : goal.returns-in_err-phrase-in-40-2
+returns-in_err-phrase-in-40-2 t c = let q = err_from_is_err_and c.from_residual-in_err-phrase-in-40-2.result c.from_residual-in_err-phrase-in-40-2.ensures.1 in rw (q.1, q.2) (fails_two (letter_is c.in-40.is c.in_ok-next.ensures) c.in_ok-phrase-in-40.ensures.took c.in_ok-joint-in-40.ensures c.in_err-phrase-in-40-2.ensures)
 
-pub returns-in_err-expect : goal.returns-in_err-expect
-returns-in_err-expect t c = let q = err_from_is_err_and c.from_residual-in_err-expect.result c.from_residual-in_err-expect.ensures.1 in rw (q.1, q.2) (fails_shut (letter_is c.in-40.is c.in_ok-next.ensures) c.in_ok-phrase.ensures.took c.in_ok-joint.ensures c.in_ok-phrase-2.ensures.took c.in_err-expect.ensures)
+pub returns-in_err-expect-in-40 : goal.returns-in_err-expect-in-40
+returns-in_err-expect-in-40 t c = let q = err_from_is_err_and c.from_residual-in_err-expect-in-40.result c.from_residual-in_err-expect-in-40.ensures.1 in rw (q.1, q.2) (fails_shut (letter_is c.in-40.is c.in_ok-next.ensures) c.in_ok-phrase-in-40.ensures.took c.in_ok-joint-in-40.ensures c.in_ok-phrase-in-40-2.ensures.took c.in_err-expect-in-40.ensures)
 
 pub returns-in-40 : goal.returns-in-40
-returns-in-40 t c = is_two c.in_ok-joint.joint (letter_is c.in-40.is c.in_ok-next.ensures) c.in_ok-phrase.ensures c.in_ok-joint.ensures c.add_between.ensures c.in_ok-phrase-2.ensures c.in_ok-expect.ensures c.add_behind.ensures
+returns-in-40 t c = is_two c.in_ok-joint-in-40.joint (letter_is c.in-40.is c.in_ok-next.ensures) c.in_ok-phrase-in-40.ensures c.in_ok-joint-in-40.ensures c.add_between.ensures c.in_ok-phrase-in-40-2.ensures c.in_ok-expect-in-40.ensures c.add_behind.ensures
 
 pub returns-in_default : goal.returns-in_default
 returns-in_default t c = fails_first c.in_ok-next.ensures (none_begins c.in_ok-next.field-0 (λ eq. omega arith) (λ eq. omega arith) (λ eq. omega arith) (λ eq. omega arith) (λ eq. omega arith) (λ eq. omega arith) (λ eq. omega arith) (λ eq. omega arith) (λ eq. omega arith))
 
-pub returns-in_err-phrase-3 : goal.returns-in_err-phrase-3
-returns-in_err-phrase-3 t c =
-    let q = err_from_is_err_and c.from_residual-in_err-phrase-3.result c.from_residual-in_err-phrase-3.ensures.1 in
+pub returns-in_err-phrase : goal.returns-in_err-phrase
+returns-in_err-phrase t c =
+    let q = err_from_is_err_and c.from_residual-in_err-phrase.result c.from_residual-in_err-phrase.ensures.1 in
     let x = c.match-branch-2.prefix in
     let at : c.in_ok-next.field-0 ≡ letter x =
     elim c.match-branch-2.branch [
@@ -48,7 +48,7 @@ returns-in_err-phrase-3 t c =
       | in-F w ↦ w.in-F.is ∙ ap letter (sym w.prefix-is)
       | in-G w ↦ w.in-G.is ∙ ap letter (sym w.prefix-is)
     ] in
-    rw (q.1, q.2) (fails_prefix x (letter_is at c.in_ok-next.ensures) c.in_err-phrase-3.ensures)
+    rw (q.1, q.2) (fails_prefix x (letter_is at c.in_ok-next.ensures) c.in_err-phrase.ensures)
 
 pub returns : goal.returns
 returns t c =
@@ -60,4 +60,4 @@ returns t c =
       | in-F w ↦ w.in-F.is ∙ ap letter (sym w.prefix-is)
       | in-G w ↦ w.in-G.is ∙ ap letter (sym w.prefix-is)
     ] in
-    is_prefix x (letter_is at c.in_ok-next.ensures) c.add_front.ensures c.in_ok-phrase-3.ensures c.add_rear.ensures
+    is_prefix x (letter_is at c.in_ok-next.ensures) c.add_front.ensures c.in_ok-phrase.ensures c.add_rear.ensures

@@ -23,8 +23,8 @@ returns-in-Enabled c =
     subst (λ a. Named a c.args.self.now c.number.new.self c.args.out.now.entries c.args.out.now.count c.add-in-Enabled.new.self.entries c.add-in-Enabled.new.self.count) (sym c.in-Enabled.is)
     (enabled_named h.0 h.1 c.add-in-Enabled.ensures)
 
-pub returns-in_ok-expect : goal.returns-in_ok-expect
-returns-in_ok-expect c =
+pub returns-in_ok-expect-in-Taken : goal.returns-in_ok-expect-in-Taken
+returns-in_ok-expect-in-Taken c =
     let h = at c.in-Taken.is c.in_ok-n.ensures in
     subst (λ a. Named a c.args.self.now c.expect.new.self c.args.out.now.entries c.args.out.now.count c.add-in-Taken.new.self.entries c.add-in-Taken.new.self.count) (sym c.in-Taken.is)
-    (taken_named h.0 h.1 c.in_ok-expect.ensures c.add-in-Taken.ensures)
+    (taken_named h.0 h.1 c.in_ok-expect-in-Taken.ensures c.add-in-Taken.ensures)
