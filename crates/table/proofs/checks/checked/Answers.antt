@@ -5,13 +5,13 @@ use Rattle.table.proofs.checks.checked.Goals as goal
 
 pub returns : goal.returns
 returns c =
-    let cut = c.in-ok-table.ensures in
+    let cut = c.in_ok-table.ensures in
     let same = cut.words in (
       record {
-        measured = cut.decreases;
-        ranged = subst (λ (ws : List ℕ). (i : ℕ) → OutOfRange ws i → ⊥) same c.in-default.ensures;
-        adds = subst (λ (ws : List ℕ). sum (counts ws) ≡ arc_count ws) same (c.if-not-adds-up.ensures.0 refl);
-        apart = subst (λ (ws : List ℕ). (i : ℕ) → Repeated ws i → ⊥) same c.in-default-repeated.ensures;
+        measured = cut.measured;
+        ranged = subst (λ (ws : List ℕ). (i : ℕ) → OutOfRange ws i → ⊥) same c.in_default.ensures;
+        adds = subst (λ (ws : List ℕ). sum (counts ws) ≡ arc_count ws) same (c.if-not-adds_up.ensures.0 refl);
+        apart = subst (λ (ws : List ℕ). (i : ℕ) → Repeated ws i → ⊥) same c.in_default-repeated.ensures;
       },
       cut,
     )

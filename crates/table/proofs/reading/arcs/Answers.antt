@@ -12,7 +12,7 @@ loop-k-preserved c =
     let k = c.loop-k.k in
     let x = arc (get_or es k 0) (get_or ts k 0) in
     let inside : k < length (paired es ts) = omega (arith, length_paired es ts c.requires.parallel, c.loop-k-test.true) in
-    let put : vec_items c.push.new.self ≡ vec_items c.loop-k.arcs ++ x ∷ [] = c.in-ok-push.ensures.items in
+    let put : vec_items c.push.new.self ≡ vec_items c.loop-k.arcs ++ x ∷ [] = c.in_ok-push.ensures.items in
     put ∙ ap (λ l. l ++ x ∷ []) c.loop-k.invariant
     ∙ ap (λ y. take k (paired es ts) ++ y ∷ []) (sym (get_d_paired es ts k no_arc c.requires.parallel c.loop-k-test.true))
     ∙ sym (take_more (paired es ts) k no_arc inside)

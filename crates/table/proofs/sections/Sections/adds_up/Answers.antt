@@ -12,18 +12,18 @@ use Rattle.table.proofs.sections.Sections.adds_up.Goals as goal
 word : (t : Sections) → Cut t.words.now t → (k : ℕ) → k < length t.counts.now → get_or t.counts.now k 0 < 2 ^ 32
 word t cut k lt =
     let ws = t.words.now in
-    let inside : k < state_count ws = omega (arith, ap length cut.counts, long_counts cut.decreases) in
-    omega (arith, cut.decreases.fits (at_counts ws + k), part_at ws (at_counts ws) (state_count ws) k 0 inside, ap (λ xs. get_or xs k 0) cut.counts)
+    let inside : k < state_count ws = omega (arith, ap length cut.counts, long_counts cut.measured) in
+    omega (arith, cut.measured.fits (at_counts ws + k), part_at ws (at_counts ws) (state_count ws) k 0 inside, ap (λ xs. get_or xs k 0) cut.counts)
 
-pub overflow-add-sum : goal.overflow-add-sum
-overflow-add-sum c =
+pub overflow_add-sum : goal.overflow_add-sum
+overflow_add-sum c =
     let t = c.args.self.now in
-    omega (arith, c.loop-count.invariant.1, word t c.requires c.loop-count.count_index c.loop-count-test.true, c.loop-count-test.true, ap length c.requires.counts, long_counts c.requires.measured, at_most c.requires.measured 0 (omega arith))
+    omega (arith, c.loop-count.invariant.1, word t c.requires c.loop-count.count-index c.loop-count-test.true, c.loop-count-test.true, ap length c.requires.counts, long_counts c.requires.measured, at_most c.requires.measured 0 (omega arith))
 
 pub loop-count-preserved : goal.loop-count-preserved
 loop-count-preserved c =
     let t = c.args.self.now in
-    let i = c.loop-count.count_index in (
+    let i = c.loop-count.count-index in (
       omega (arith, c.loop-count.invariant.0, sum_by_more (λ x. x) t.counts.now i 0 c.loop-count-test.true),
       omega (arith, c.loop-count.invariant.1, word t c.requires i c.loop-count-test.true),
     )

@@ -10,53 +10,53 @@ use Rattle.table.proofs.sections.Sections.out_of_range.Goals as goal
 -- where the arrays begin, by the sections before them
 module _ (t : Sections) (cut : Cut t.words.now t) where
   counts_at : at_counts t.words.now ≡ 4 + length t.initial.now + length t.facts.now
-  counts_at = omega (arith, ap length cut.initial, ap length cut.facts, long_initials cut.decreases, long_facts cut.decreases)
+  counts_at = omega (arith, ap length cut.initial, ap length cut.facts, long_initials cut.measured, long_facts cut.measured)
 
   events_at : at_events t.words.now ≡ 4 + length t.initial.now + length t.facts.now + length t.counts.now
-  events_at = omega (arith, counts_at, ap length cut.counts, long_counts cut.decreases)
+  events_at = omega (arith, counts_at, ap length cut.counts, long_counts cut.measured)
 
   targets_at : at_targets t.words.now ≡ 4 + length t.initial.now + length t.facts.now + length t.counts.now + length t.events.now
-  targets_at = omega (arith, events_at, ap length cut.events, long_events cut.decreases)
+  targets_at = omega (arith, events_at, ap length cut.events, long_events cut.measured)
 
 pub returns-in-Some : goal.returns-in-Some
 returns-in-Some c =
     lowest_initial c.requires.measured c.in-Some.k (subst (λ xs. FirstBeyond xs (state_count c.args.self.now.words.now) c.in-Some.k) c.requires.initial c.in-Some.ensures)
 
-pub returns-in-Some-first-beyond : goal.returns-in-Some-first-beyond
-returns-in-Some-first-beyond c =
+pub returns-in-Some-first_beyond : goal.returns-in-Some-first_beyond
+returns-in-Some-first_beyond c =
     let t = c.args.self.now in
     let ws = t.words.now in
-    let k = c.in-Some-first-beyond.k in
-    let low = subst (λ xs. Low xs (state_count ws)) c.requires.initial c.in-default.ensures in
+    let k = c.in-Some-first_beyond.k in
+    let low = subst (λ xs. Low xs (state_count ws)) c.requires.initial c.in_default.ensures in
     subst (λ at. Lowest (OutOfRange ws) (at + k)) (counts_at t c.requires)
-    (lowest_count c.requires.measured low k (subst (λ xs. FirstBeyond xs 17 k) c.requires.counts c.in-Some-first-beyond.ensures))
+    (lowest_count c.requires.measured low k (subst (λ xs. FirstBeyond xs 17 k) c.requires.counts c.in-Some-first_beyond.ensures))
 
-pub returns-in-Some-first-beyond-2 : goal.returns-in-Some-first-beyond-2
-returns-in-Some-first-beyond-2 c =
+pub returns-in-Some-first_beyond-2 : goal.returns-in-Some-first_beyond-2
+returns-in-Some-first_beyond-2 c =
     let t = c.args.self.now in
     let ws = t.words.now in
-    let k = c.in-Some-first-beyond-2.k in
-    let low = subst (λ xs. Low xs (state_count ws)) c.requires.initial c.in-default.ensures in
-    let few = subst (λ xs. Low xs 17) c.requires.counts c.in-default-first-beyond.ensures in
+    let k = c.in-Some-first_beyond-2.k in
+    let low = subst (λ xs. Low xs (state_count ws)) c.requires.initial c.in_default.ensures in
+    let few = subst (λ xs. Low xs 17) c.requires.counts c.in_default-first_beyond.ensures in
     subst (λ at. Lowest (OutOfRange ws) (at + k)) (events_at t c.requires)
-    (lowest_event c.requires.measured low few k (subst (λ xs. FirstBeyond xs (event_count ws) k) c.requires.events c.in-Some-first-beyond-2.ensures))
+    (lowest_event c.requires.measured low few k (subst (λ xs. FirstBeyond xs (event_count ws) k) c.requires.events c.in-Some-first_beyond-2.ensures))
 
-pub returns-in-Some-first-beyond-3 : goal.returns-in-Some-first-beyond-3
-returns-in-Some-first-beyond-3 c =
+pub returns-in-Some-first_beyond-3 : goal.returns-in-Some-first_beyond-3
+returns-in-Some-first_beyond-3 c =
     let t = c.args.self.now in
     let ws = t.words.now in
-    let k = c.in-Some-first-beyond-3.k in
-    let low = subst (λ xs. Low xs (state_count ws)) c.requires.initial c.in-default.ensures in
-    let few = subst (λ xs. Low xs 17) c.requires.counts c.in-default-first-beyond.ensures in
-    let known = subst (λ xs. Low xs (event_count ws)) c.requires.events c.in-default-first-beyond-2.ensures in
+    let k = c.in-Some-first_beyond-3.k in
+    let low = subst (λ xs. Low xs (state_count ws)) c.requires.initial c.in_default.ensures in
+    let few = subst (λ xs. Low xs 17) c.requires.counts c.in_default-first_beyond.ensures in
+    let known = subst (λ xs. Low xs (event_count ws)) c.requires.events c.in_default-first_beyond-2.ensures in
     subst (λ at. Lowest (OutOfRange ws) (at + k)) (targets_at t c.requires)
-    (lowest_target c.requires.measured low few known k (subst (λ xs. FirstBeyond xs (state_count ws) k) c.requires.targets c.in-Some-first-beyond-3.ensures))
+    (lowest_target c.requires.measured low few known k (subst (λ xs. FirstBeyond xs (state_count ws) k) c.requires.targets c.in-Some-first_beyond-3.ensures))
 
 pub returns-in-None : goal.returns-in-None
 returns-in-None c =
     let t = c.args.self.now in
     let ws = t.words.now in
-    let low = subst (λ xs. Low xs (state_count ws)) c.requires.initial c.in-default.ensures in
-    let few = subst (λ xs. Low xs 17) c.requires.counts c.in-default-first-beyond.ensures in
-    let known = subst (λ xs. Low xs (event_count ws)) c.requires.events c.in-default-first-beyond-2.ensures in
+    let low = subst (λ xs. Low xs (state_count ws)) c.requires.initial c.in_default.ensures in
+    let few = subst (λ xs. Low xs 17) c.requires.counts c.in_default-first_beyond.ensures in
+    let known = subst (λ xs. Low xs (event_count ws)) c.requires.events c.in_default-first_beyond-2.ensures in
     all_in_range c.requires.measured low few known (subst (λ xs. Low xs (state_count ws)) c.requires.targets c.in-None.ensures)

@@ -25,20 +25,20 @@ arcs-requires c =
       few = λ k lt. omega (arith, events_low k lt, at_most m 1 (omega arith));
     }
 
-pub overflow-cast-result-2 : goal.overflow-cast-result-2
-overflow-cast-result-2 c = omega (arith, c.most.ensures, ap largest c.requires.1.counts, narrow c.requires.0)
+pub overflow_cast-result-2 : goal.overflow_cast-result-2
+overflow_cast-result-2 c = omega (arith, c.most.ensures, ap largest c.requires.1.counts, narrow c.requires.0)
 
 pub returns : goal.returns
 returns c =
     let cut = c.requires.1 in
-    let first = c.in-ok-first.ensures in
+    let first = c.in_ok-first.ensures in
     let states = ap length cut.counts ∙ long_counts c.requires.0.measured in
     record {
       events = refl;
       width = c.most.ensures ∙ ap largest cut.counts;
-      initial = c.in-ok-initial.ensures.items ∙ cut.initial;
-      facts = c.in-ok-facts.ensures.items ∙ cut.facts;
+      initial = c.in_ok-initial.ensures.items ∙ cut.initial;
+      facts = c.in_ok-facts.ensures.items ∙ cut.facts;
       long = omega (arith, first.0, states);
       first = λ s le. first.1 s (omega (arith, le, states)) ∙ ap (λ xs. sum (take s xs)) cut.counts;
-      arcs = c.in-ok-arcs.ensures ∙ (λ i. paired (cut.events i) (cut.targets i));
+      arcs = c.in_ok-arcs.ensures ∙ (λ i. paired (cut.events i) (cut.targets i));
     }

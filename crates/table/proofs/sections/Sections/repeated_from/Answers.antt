@@ -14,8 +14,8 @@ section-events-requires c = omega (arith, c.requires.within, ap length c.require
 pub section-targets-requires : goal.section-targets-requires
 section-targets-requires c = omega (arith, c.requires.within, ap length c.requires.cut.targets, long_targets c.requires.cut.measured)
 
-pub repeated-arc-requires : goal.repeated-arc-requires
-repeated-arc-requires c =
+pub repeated_arc-requires : goal.repeated_arc-requires
+repeated_arc-requires c =
     let t = c.args.self.now in
     let m = c.requires.cut.measured in
     let es = ap length c.section-events.ensures ∙ part_long t.events.now c.args.from c.args.count (omega (arith, c.requires.within, ap length c.requires.cut.events, long_events m)) in
@@ -32,4 +32,4 @@ returns c =
     let ts = c.section-targets.ensures ∙ ap (part from n) c.requires.cut.targets in
     let same : paired c.section-events.result.now c.section-targets.result.now ≡ part from n (all_arcs ws) =
     (λ i. paired (es i) (ts i)) ∙ paired_part from n (events ws) (targets ws) (long_targets m ∙ sym (long_events m)) in
-    subst (λ xs. MatchOption c.repeated-arc.result (Distinct xs) (λ k. Lowest (Again xs) k)) same c.repeated-arc.ensures
+    subst (λ xs. MatchOption c.repeated_arc.result (Distinct xs) (λ k. Lowest (Again xs) k)) same c.repeated_arc.ensures

@@ -18,8 +18,8 @@ returns-then-state-len c =
 offset : (t : TablePlant) (s x : ℕ) → s ≤ vec_len t.parts.facts → x ≡ get_or (vec_items t.parts.first) s x → x ≡ first_arc t.parts s
 offset t s x within read = get_or_read_under (vec_items t.parts.first) s (vec_len t.parts.first) x 0 read (omega (arith, t.long)) t.parts.first.ok.0
 
-pub overflow-sub-count : goal.overflow-sub-count
-overflow-sub-count c =
+pub overflow_sub-count : goal.overflow_sub-count
+overflow_sub-count c =
     let t = c.args.self.now in
     let s = c.args.state in
     let low : s < vec_len t.parts.facts = omega (arith, c.if-state-len.false, c.len.ensures) in
@@ -30,7 +30,7 @@ section-requires c =
     let t = c.args.self.now in
     let s = c.args.state in
     let low : s < vec_len t.parts.facts = omega (arith, c.if-state-len.false, c.len.ensures) in
-    omega (arith, offset t s _ (omega arith) c.index-from.ensures, offset t (s + 1) _ (omega arith) c.index.ensures, t.rising s low, t.inside (s + 1), c.as-slice.ensures.len)
+    omega (arith, offset t s _ (omega arith) c.index-from.ensures, offset t (s + 1) _ (omega arith) c.index.ensures, t.rising s low, t.inside (s + 1), c.as_slice.ensures.len)
 
 pub returns : goal.returns
 returns c =
@@ -39,4 +39,4 @@ returns c =
     let low : s < vec_len t.parts.facts = omega (arith, c.if-state-len.false, c.len.ensures) in
     let from = offset t s _ (omega arith) c.index-from.ensures in
     let to = offset t (s + 1) _ (omega arith) c.index.ensures in
-    c.section.ensures ∙ (λ i. part (from i) (to i - from i) (c.as-slice.ensures.value i))
+    c.section.ensures ∙ (λ i. part (from i) (to i - from i) (c.as_slice.ensures.value i))

@@ -15,34 +15,43 @@ use Rattle.table.proofs.table.TablePlant.from_words.Goals as goal
 abbrev Answered : List ℕ → Result TablePlant Failure → Type 0
 Answered ws r = MatchResult r (λ p. Granted ws (model_of p.parts)) (λ e. Failed (rows ws) e)
 
-pub returns-in-err-sections : goal.returns-in-err-sections
-returns-in-err-sections c =
+pub returns-in_err-sections : goal.returns-in_err-sections
+returns-in_err-sections c =
     let ws = c.args.words.now in
-    let e = c.in-err-sections.field-0.0 in
-    let first = c.in-err-sections.ensures in
-    let p = err_from_is_err_and c.from-residual.result c.from-residual.ensures.1 in
-    let is : c.from-residual.result ≡ Err (Refused e) = p.1 ∙ ap (λ x. Err x) p.2 in
-    record { answer = subst (Answered ws) (sym is) first; only = refused_only ws c.from-residual.result e is first }
+    let e = c.in_err-sections.field-0.0 in
+    let first = c.in_err-sections.ensures in
+    let p = err_from_is_err_and c.from_residual.result c.from_residual.ensures.1 in
+    let is : c.from_residual.result ≡ Err (Refused e) = p.1 ∙ ap (λ x. Err x) p.2 in
+    record { answer = subst (Answered ws) (sym is) first; only = refused_only ws c.from_residual.result e is first }
 
-pub returns-in-err-parts : goal.returns-in-err-parts
-returns-in-err-parts c =
+pub returns-in_err-parts : goal.returns-in_err-parts
+returns-in_err-parts c =
     let ws = c.args.words.now in
-    let p = err_from_is_err_and c.from-residual-in-err-parts.result c.from-residual-in-err-parts.ensures.1 in
-    let is : c.from-residual-in-err-parts.result ≡ Err OutOfMemory = p.1 ∙ ap (λ x. Err x) p.2 in
-    let none = clear c.in-ok-sections.ensures.0 in
-    record { answer = subst (Answered ws) (sym is) none; only = clear_only ws c.from-residual-in-err-parts.result none }
+    let p = err_from_is_err_and c.from_residual-in_err-parts.result c.from_residual-in_err-parts.ensures.1 in
+    let is : c.from_residual-in_err-parts.result ≡ Err OutOfMemory = p.1 ∙ ap (λ x. Err x) p.2 in
+    let none = clear c.in_ok-sections.ensures.0 in
+    record { answer = subst (Answered ws) (sym is) none; only = clear_only ws c.from_residual-in_err-parts.result none }
 
-pub invariant-of-result : goal.invariant-of-result
-invariant-of-result c =
-    let kept = c.in-ok-sections.ensures.0 in
-    let read = subst (λ ws. Read ws c.in-ok-parts.parts) c.in-ok-sections.ensures.1.words c.in-ok-parts.ensures in
+pub invariant_of-result : goal.invariant_of-result
+invariant_of-result c =
+    let kept = c.in_ok-sections.ensures.0 in
+    let read = subst (λ ws. Read ws c.in_ok-parts.parts) c.in_ok-sections.ensures.1.words c.in_ok-parts.ensures in
     let l = parts_lawful kept read in
-    (l.limits, (l.begins, (l.branches, (l.leads, (l.ends, (long_first kept read, (rising kept read, (inside kept read, tt))))))))
+    record {
+      limits = l.limits;
+      begins = l.begins;
+      branches = l.branches;
+      leads = l.leads;
+      ends = l.ends;
+      long = long_first kept read;
+      rising = rising kept read;
+      inside = inside kept read;
+    }
 
 pub returns : goal.returns
 returns c =
-    let kept = c.in-ok-sections.ensures.0 in
-    let read = subst (λ ws. Read ws c.in-ok-parts.parts) c.in-ok-sections.ensures.1.words c.in-ok-parts.ensures in
+    let kept = c.in_ok-sections.ensures.0 in
+    let read = subst (λ ws. Read ws c.in_ok-parts.parts) c.in_ok-sections.ensures.1.words c.in_ok-parts.ensures in
     record {
       answer = record { clear = clear kept; means = means kept read; lawful = parts_lawful kept read };
       only = clear_only c.args.words.now _ (clear kept);
