@@ -9,8 +9,8 @@ loop-word-preserved c =
     let i = c.loop-word.word-index in
     let line = string_bytes c.args.line in
     let before = string_bytes c.loop-word.line in
-    let put : string_bytes c.push-str.new.self ≡ before ++ c.as-str.result.now = c.in-ok-push-str.ensures.bytes in
-    let more : c.as-str.result.now ≡ 32 ∷ decimal (get_or words i 0) = c.as-str.ensures.value ∙ c.in-ok-more.ensures.ok in
+    let put : string_bytes c.push_str.new.self ≡ before ++ c.as_str.result.now = c.in_ok-push_str.ensures.bytes in
+    let more : c.as_str.result.now ≡ 32 ∷ decimal (get_or words i 0) = c.as_str.ensures.value ∙ c.in_ok-more.ensures.ok in
     put ∙ ap (λ l. before ++ l) more ∙ ap (λ l. l ++ (32 ∷ decimal (get_or words i 0))) c.loop-word.invariant
     ∙ flat_map_more (λ n. 32 ∷ decimal n) line (take i words) (get_or words i 0)
     ∙ ap (λ l. line ++ spaced_out l) (sym (take_more words i 0 c.loop-word-test.true))

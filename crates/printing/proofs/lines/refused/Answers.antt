@@ -6,5 +6,5 @@ use Rattle.printing.proofs.lines.refused.Goals as goal
 pub returns : goal.returns
 returns c =
     let number = c.number-number.ensures in
-    let layer = c.layer-name-layer.ensures ∙ ap name_of_layer c.layer.ensures in
+    let layer = c.layer_name-layer.ensures ∙ ap name_of_layer c.layer.ensures in
     IfOk-weaker c.format.result _ _ (λ s e. cc) c.format.ensures.ok

@@ -11,7 +11,7 @@ loop-entry-preserved c =
     let word = column_of c.args.self in
     let before = vec_items c.args.words.now in
     let so_far = vec_items c.loop-entry.words in
-    let put : vec_items c.push.new.self ≡ so_far ++ c.word.result ∷ [] = c.in-ok-push.ensures.items in
+    let put : vec_items c.push.new.self ≡ so_far ++ c.word.result ∷ [] = c.in_ok-push.ensures.items in
     let is : c.word.result ≡ word (get_or es i True) = c.word.ensures in
     put ∙ ap (λ w. so_far ++ w ∷ []) is ∙ ap (λ l. l ++ word (get_or es i True) ∷ []) c.loop-entry.invariant
     ∙ append_assoc before (map word (take i es)) (word (get_or es i True) ∷ [])
