@@ -3,8 +3,8 @@ use Rattle.guarded.specs.Values.{extent_of}
 use Rattle.rule.proofs.Steps.{none, length_rest, sized_rest, extent_step, extent_fits}
 use Rattle.rule.proofs.states.+extent.Goals as goal
 
-pub returns-in-default : goal.returns-in-default
-returns-in-default t c =
+pub returns-in_default : goal.returns-in_default
+returns-in_default t c =
     let short : length c.args.sizes.now < 1 = search rules in
     sym (ap extent_of (none c.args.sizes.now short))
 
@@ -19,8 +19,8 @@ whole {t} c =
     let some : 0 < length c.args.sizes.now = search rules in
     ap (λ n. get_or c.args.sizes.now 0 0 * n) c.extent.ensures ∙ sym (extent_step c.args.sizes.now some)
 
-pub overflow-mul-result : goal.overflow-mul-result
-overflow-mul-result t c = omega (arith, whole c, extent_fits c.args.sizes.now c.requires.few c.requires.sized)
+pub overflow_mul-result : goal.overflow_mul-result
+overflow_mul-result t c = omega (arith, whole c, extent_fits c.args.sizes.now c.requires.few c.requires.sized)
 
 pub returns : goal.returns
 returns t c = whole c

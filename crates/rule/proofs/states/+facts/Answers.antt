@@ -4,8 +4,8 @@ use Rattle.guarded.specs.Values.{facts_of, values_of}
 use Rattle.rule.proofs.Steps.{rest, none, length_rest, sized_rest, facts_step, facts_fit}
 use Rattle.rule.proofs.states.+facts.Goals as goal
 
-pub returns-in-default : goal.returns-in-default
-returns-in-default t c =
+pub returns-in_default : goal.returns-in_default
+returns-in_default t c =
     let short : length c.args.sizes.now < 1 = search rules in
     sym (ap (λ ns. facts_of (values_of ns c.args.state)) (none c.args.sizes.now short))
 
@@ -21,11 +21,11 @@ small {t} c =
     let one = length_rest c.args.sizes.now some in
     omega (arith, c.facts-rest.ensures, facts_fit (rest c.args.sizes.now) (c.args.state / get_or c.args.sizes.now 0 0) (omega arith))
 
-pub overflow-mul-rest : goal.overflow-mul-rest
-overflow-mul-rest t c = omega (arith, small c)
+pub overflow_mul-rest : goal.overflow_mul-rest
+overflow_mul-rest t c = omega (arith, small c)
 
-pub overflow-add-result : goal.overflow-add-result
-overflow-add-result t c =
+pub overflow_add-result : goal.overflow_add-result
+overflow_add-result t c =
     let some : 0 < length c.args.sizes.now = search rules in
     let one = length_rest c.args.sizes.now some in
     omega (arith, c.facts-rest.ensures, facts_fit (rest c.args.sizes.now) (c.args.state / get_or c.args.sizes.now 0 0) (omega arith))

@@ -3,13 +3,13 @@ use Rattle.guarded.specs.Values.{meets, values_of}
 use Rattle.rule.proofs.Steps.{rest, none, length_rest, sized_rest, meets_step, meets_none}
 use Rattle.rule.proofs.states.+met.Goals as goal
 
-pub returns-in-default : goal.returns-in-default
-returns-in-default t c =
+pub returns-in_default : goal.returns-in_default
+returns-in_default t c =
     let short : length c.args.needs.now < 1 = search rules in
     sym (ap (λ os. meets os (values_of c.args.sizes.now c.args.state)) (none c.args.needs.now short))
 
-pub returns-in-default-sizes : goal.returns-in-default-sizes
-returns-in-default-sizes t c =
+pub returns-in_default-sizes : goal.returns-in_default-sizes
+returns-in_default-sizes t c =
     let short : length c.args.sizes.now < 1 = search rules in
     sym (ap (λ ns. meets c.args.needs.now (values_of ns c.args.state)) (none c.args.sizes.now short) ∙ meets_none c.args.needs.now)
 

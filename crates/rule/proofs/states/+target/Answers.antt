@@ -3,8 +3,8 @@ use Rattle.guarded.specs.Values.{number_of, after, values_of}
 use Rattle.rule.proofs.Steps.{none, length_rest, sized_rest, ranged_rest, target_step, target_fits}
 use Rattle.rule.proofs.states.+target.Goals as goal
 
-pub returns-in-default : goal.returns-in-default
-returns-in-default t c =
+pub returns-in_default : goal.returns-in_default
+returns-in_default t c =
     let short : length c.args.sets.now < 1 = search rules in
     let short_too : length c.args.sizes.now < 1 = omega arith in
     sym (ap (λ ns. number_of ns (after c.args.sets.now (values_of c.args.sizes.now c.args.state))) (none c.args.sizes.now short_too))
@@ -17,8 +17,8 @@ target-requires t c =
     let one_set = length_rest c.args.sets.now some_sets in
     (omega arith, (omega arith, (sized_rest c.args.sizes.now some c.requires.sized, (omega arith, ranged_rest c.args.sizes.now c.args.sets.now some some_sets c.requires.ranged))))
 
-pub overflow-mul-result : goal.overflow-mul-result
-overflow-mul-result t c =
+pub overflow_mul-result : goal.overflow_mul-result
+overflow_mul-result t c =
     let some : 0 < length c.args.sizes.now = search rules in
     let some_sets : 0 < length c.args.sets.now = omega arith in
     let step = target_step c.args.sizes.now c.args.sets.now c.args.state some some_sets in
@@ -33,6 +33,6 @@ returns t c =
     let next = c.target.ensures in
     (λ i. first i + get_or c.args.sizes.now 0 0 * next i) ∙ sym (target_step c.args.sizes.now c.args.sets.now c.args.state some some_sets)
 
-pub overflow-add-result : goal.overflow-add-result
-overflow-add-result t c =
+pub overflow_add-result : goal.overflow_add-result
+overflow_add-result t c =
     omega (arith, returns t c, target_fits c.args.sizes.now c.args.sets.now c.args.state c.requires.few c.requires.sized c.requires.ranged)

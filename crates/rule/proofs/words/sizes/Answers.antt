@@ -4,7 +4,7 @@ use Rattle.rule.proofs.words.sizes.Goals as goal
 
 pub loop-word-preserved : goal.loop-word-preserved
 loop-word-preserved c =
-    c.in-ok-push.ensures.items
+    c.in_ok-push.ensures.items
     ∙ ap (λ xs. xs ++ get_or c.args.words.now c.loop-word.word-index 0 ∷ []) c.loop-word.invariant
     ∙ sym (take_more c.args.words.now c.loop-word.word-index 0 c.loop-word-test.true)
 

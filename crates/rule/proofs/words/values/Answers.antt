@@ -5,7 +5,7 @@ use Rattle.rule.proofs.words.values.Goals as goal
 
 pub loop-word-preserved : goal.loop-word-preserved
 loop-word-preserved c =
-    c.in-ok-push.ensures.items
+    c.in_ok-push.ensures.items
     ∙ (λ i. c.loop-word.invariant i ++ c.value.ensures i ∷ [])
     ∙ sym (map_more value_in c.args.words.now c.loop-word.word-index 0 c.loop-word-test.true)
 

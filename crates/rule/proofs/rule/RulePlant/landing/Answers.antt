@@ -6,14 +6,14 @@ use Rattle.rule.proofs.rule.RulePlant.landing.Goals as goal
 
 pub row-sets-requires : goal.row-sets-requires
 row-sets-requires c =
-    rw (c.as-slice-sizes.ensures.value, c.as-slice.ensures.value, c.args.self.now.filled.1)
+    rw (c.as_slice-sizes.ensures.value, c.as_slice.ensures.value, c.args.self.now.filled.1)
     (row_within c.args.rule c.args.self.now.parts.rules _ c.requires)
 
 pub target-requires : goal.target-requires
 target-requires c =
     let p = c.args.self.now.parts in
-    let sizes : c.as-slice-sizes.result.now ≡ sizes_of p = c.as-slice-sizes.ensures.value in
-    let all : c.as-slice.result.now ≡ vec_items p.sets = c.as-slice.ensures.value in
+    let sizes : c.as_slice-sizes.result.now ≡ sizes_of p = c.as_slice-sizes.ensures.value in
+    let all : c.as_slice.result.now ≡ vec_items p.sets = c.as_slice.ensures.value in
     let sets : c.row-sets.result.now ≡ sets_of p c.args.rule =
     c.row-sets.ensures ∙ (λ i. row_of (length (sizes i)) (all i) c.args.rule) in
     let within : c.args.rule * width_of p + width_of p ≤ length (vec_items p.sets) =
