@@ -25,7 +25,7 @@ inside : (opened : ℕ → Bool) (M : System) (r : Run) (i : ℕ) → 0 < places
 inside opened M r i some bad = ⊎_elim (λ closed. closed.0) (inside_wrong M r i some) bad
 
 pub loop-place-preserved : goal.loop-place-preserved
-loop-place-preserved g c = below_more _ _ c.loop-place.invariant c.in-default.ensures
+loop-place-preserved g c = below_more _ _ c.loop-place.invariant c.in_default.ensures
 
 pub returns-in-Some : goal.returns-in-Some
 returns-in-Some g c =

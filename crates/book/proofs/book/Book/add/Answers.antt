@@ -7,20 +7,20 @@ use Rattle.book.specs.declared.record.Record.{Record}
 use Rattle.book.proofs.Rows.{put_apart, put_few, put_look, room, not_held}
 use Rattle.book.proofs.book.Book.add.Goals as goal
 
-pub invariant-of-self : goal.invariant-of-self
-invariant-of-self g c =
+pub invariant_of-self : goal.invariant_of-self
+invariant_of-self g c =
     let b = c.args.self.now in
     let r = c.fill.new.self in
     let i = c.in-Some-free.place in
     let lt : i < length b.records = omega (arith, b.long, c.in-Some-free.ensures.0) in
-    let none = c.in-default.ensures in
-    let fresh = not_held b.records r.state (ap (look b.records) c.fill.ensures.state ∙ none) in (
-      length-set b.records i r ∙ b.long,
-      (
-        length-set b.hints (c.args.state % 256) i ∙ b.advised,
-        (put_apart b.records i r lt fresh b.apart, (put_few b.records i r lt c.fill.ensures.few b.few, tt)),
-      ),
-    )
+    let none = c.in_default.ensures in
+    let fresh = not_held b.records r.state (ap (look b.records) c.fill.ensures.state ∙ none) in
+    record {
+      long = length-set b.records i r ∙ b.long;
+      advised = length-set b.hints (c.args.state % 256) i ∙ b.advised;
+      apart = put_apart b.records i r lt fresh b.apart;
+      few = put_few b.records i r lt c.fill.ensures.few b.few;
+    }
 
 pub returns : goal.returns
 returns g c =
@@ -29,7 +29,7 @@ returns g c =
     let i = c.in-Some-free.place in
     let s = c.args.state in
     let lt : i < length b.records = omega (arith, b.long, c.in-Some-free.ensures.0) in
-    let none = c.in-default.ensures in
+    let none = c.in_default.ensures in
     let fresh = not_held b.records r.state (ap (look b.records) c.fill.ensures.state ∙ none) in
     let adds = put_look b.records i r lt c.in-Some-free.ensures.1 c.fill.ensures.opens fresh in (
       none,

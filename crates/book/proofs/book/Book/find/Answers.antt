@@ -18,8 +18,8 @@ answer : (b : Book) (s : ℕ) (o : Option ℕ) → MatchOption o ((k : ℕ) → 
 answer b s None none = look_none b.records s (λ k lt. none k (omega (arith, b.long)))
 answer b s (Some i) found = place_of b s i found.0 found.1
 
-pub returns-then-is-of : goal.returns-then-is-of
-returns-then-is-of c = place_of c.args.self.now c.args.state _ (search rules) (sym c.is-of.ensures ∙ c.if-is-of.true)
+pub returns-then-is_of : goal.returns-then-is_of
+returns-then-is_of c = place_of c.args.self.now c.args.state _ (search rules) (sym c.is_of.ensures ∙ c.if-is_of.true)
 
 pub returns : goal.returns
 returns c = answer c.args.self.now c.args.state c.search.result c.search.ensures

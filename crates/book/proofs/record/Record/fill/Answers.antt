@@ -6,7 +6,7 @@ use Rattle.book.proofs.record.Record.fill.Goals as goal
 pub loop-i-init : goal.loop-i-init
 loop-i-init g c =
     let law = g.P.Plant.lawful c.args.plant.now in
-    (refl, sym c.arc-count-count.ensures, omega (arith, law.branches.0 c.args.state, law.limits.4, c.arc-count-count.ensures), refl)
+    (refl, sym c.arc_count-count.ensures, omega (arith, law.branches.0 c.args.state, law.limits.4, c.arc_count-count.ensures), refl)
 
 pub loop-i-preserved : goal.loop-i-preserved
 loop-i-preserved g c =
@@ -19,6 +19,6 @@ loop-i-preserved g c =
 pub returns : goal.returns
 returns g c =
     let ys = (g.P.Plant.model c.args.plant.now).system.arcs c.args.state in
-    let i : c.loop-i.i ≡ c.arc-count-count.result = omega arith in
-    let t : take c.arc-count-count.result c.loop-i.arcs ≡ ys = rw i at c.loop-i.invariant.3 ∙ take_all c.arc-count-count.result ys (omega (arith, c.loop-i.invariant.1)) in
+    let i : c.loop-i.i ≡ c.arc_count-count.result = omega arith in
+    let t : take c.arc_count-count.result c.loop-i.arcs ≡ ys = rw i at c.loop-i.invariant.3 ∙ take_all c.arc_count-count.result ys (omega (arith, c.loop-i.invariant.1)) in
     record { opens = refl; state = refl; few = c.loop-i.invariant.2; said = λ k. record { facts = c.facts.ensures k; arcs = t k } }

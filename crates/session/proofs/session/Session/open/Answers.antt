@@ -23,6 +23,6 @@ returns-in-Err g c =
       plant = refl;
       refused = λ i. record { plant = s.plant; book = why.1 i; walk = s.walk };
       law = λ h kept.
-          subst (λ b. Kept (g.P.Plant.model s.plant) (book_of b) s.walk (turn (open_state c.args.state) (refused c.not-opened.result) ∷ h)) (sym why.1)
-          (not_opened c.args.state s.book c.in-Err.why c.not-opened.result kept why.0 c.not-opened.ensures);
+          subst (λ b. Kept (g.P.Plant.model s.plant) (book_of b) s.walk (turn (open_state c.args.state) (refused c.not_opened.result) ∷ h)) (sym why.1)
+          (not_opened c.args.state s.book c.in-Err.why c.not_opened.result kept why.0 c.not_opened.ensures);
     }

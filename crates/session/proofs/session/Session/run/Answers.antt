@@ -12,11 +12,11 @@ loop-call-preserved g c =
     let calls = c.args.calls.now in
     let i = c.loop-call.call-index in
     let inv = c.loop-call.invariant in
-    let put = c.push-reserved.ensures in
+    let put = c.push_reserved.ensures in
     let call = get_or calls i (Open 0) in
     let before = vec_items c.loop-call.answers in
     let long : length before ≡ length (take i calls) = sym c.loop-call.answers.ok.0 ∙ inv.0 ∙ sym (length-take-le i calls (omega (arith, c.loop-call-test.true))) in
-    let more : (h : List Turn) → logged (take (i + 1) calls) (vec_items c.push-reserved.new.self) h ≡ _ = λ h.
+    let more : (h : List Turn) → logged (take (i + 1) calls) (vec_items c.push_reserved.new.self) h ≡ _ = λ h.
     (λ k. logged (take_more calls i (Open 0) c.loop-call-test.true k) (put.items k) h) ∙ logged_more (take i calls) before call c.answer-answer.result h long in (
       omega (arith, put.len, inv.0),
       omega (arith, inv.1, put.capacity),

@@ -19,7 +19,7 @@ returns-then-index-arcs g c = record {
       let M = g.P.Plant.model self.plant in
       let at = c.in-Some-find.ensures in
       let on = subst (λ w. Kept M (book_of self.book) w h) c.in-Some.is kept in
-      let arcs = c.arcs-at-arcs.ensures ∙ arcs_here self.book s c.in-Some-find.place kept at in
+      let arcs = c.arcs_at-arcs.ensures ∙ arcs_here self.book s c.in-Some-find.place kept at in
       subst (λ w. Kept M (book_of self.book) w (turn (step c.args.index) (refused c.at-then-index-arcs.result) ∷ h)) (sym c.in-Some.is)
       (no_arc_there s c.args.index on at.known c.at-then-index-arcs.result (omega (arith, ap length arcs, c.if-index-arcs.true)) c.at-then-index-arcs.ensures);
 }
@@ -35,7 +35,7 @@ returns g c = record {
       let M = g.P.Plant.model self.plant in
       let at = c.in-Some-find.ensures in
       let on = subst (λ w. Kept M (book_of self.book) w h) c.in-Some.is kept in
-      let arcs = c.arcs-at-arcs.ensures ∙ arcs_here self.book s c.in-Some-find.place kept at in
+      let arcs = c.arcs_at-arcs.ensures ∙ arcs_here self.book s c.in-Some-find.place kept at in
       let within : j < length (M.system.arcs s) = omega (arith, ap length arcs, c.if-index-arcs.false) in
       stepped s j on at.known _ within (ap (λ (xs : List Arc). (get_or xs j no_arc).target) arcs ∙ ap (λ (x : Arc). x.target) (get_or_default (M.system.arcs s) j no_arc past_arc within));
 }
