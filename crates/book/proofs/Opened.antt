@@ -1,10 +1,9 @@
 -- The open states of a row of records: each is listed once. Relies on Rows.
-use Rattle.std.proofs.Common.{◌≡◌, ℕ, zero, suc, ◌<◌, ◌≤◌, Bool, true, false, cond, ◌&&◌, eqb, List, [], ◌∷◌, length, get_or, is_some, Some, None, sym, refl, ap, ◌∙◌, subst, ⊎_elim, arith}
-use Rattle.std.proofs.lemmas.List.{get_or_default}
+use Rattle.std.proofs.Common.{◌≡◌, ℕ, zero, suc, ◌<◌, Bool, true, false, cond, List, [], ◌∷◌, length, get_or, is_some, sym, ap, subst, ⊎_elim, arith}
 use Rattle.std.proofs.lemmas.Bool.{cases_Bool}
 use Rattle.std.proofs.lemmas.Bool.Decides.{nat_tests}
 use Rattle.plant.specs.Model.{Distinct}
-use Rattle.book.specs.Records.{saying_of, no_record, names, look, open_states, Holds, Apart}
+use Rattle.book.specs.Records.{names, look, open_states, Holds, Apart}
 use Rattle.book.specs.declared.record.Record.{Record}
 
 -- s stands in a list

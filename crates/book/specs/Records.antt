@@ -1,5 +1,5 @@
 -- What a row of records stands for: which states are open, and what is written down of each. Relies on meaning's systems.
-use Rattle.std.specs.Prelude.{◌≡◌, ℕ, ◌<◌, ◌≤◌, Bool, true, false, cond, ◌&&◌, List, [], ◌∷◌, length, get_or, take, replicate, Some, None, Option, ◌==◌, slice_index_or}
+use Rattle.std.specs.Prelude.{◌≡◌, ℕ, ◌<◌, ◌≤◌, Bool, true, false, cond, ◌&&◌, List, [], ◌∷◌, get_or, take, replicate, Some, None, Option, ◌==◌, slice_index_or}
 use Rattle.meaning.specs.declared.Arc.{Arc}
 use Rattle.meaning.specs.Systems.{System, no_arc}
 use Rattle.book.specs.declared.record.Record.{Record}

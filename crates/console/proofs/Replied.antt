@@ -1,5 +1,5 @@
 -- Each kind of line has its one reply. Assumes nothing.
-use Rattle.std.proofs.Common.{◌≡◌, ℕ, List, [], ◌∷◌, ◌++◌, codes, Option, sym, refl, subst}
+use Rattle.std.proofs.Common.{◌≡◌, ℕ, List, [], ◌∷◌, ◌++◌, codes, Option, refl, subst}
 use Rattle.formula.specs.declared.entry.Entry.{Entry}
 use Rattle.script.specs.Says.{Meaning, Says, Skipped, Plain}
 use Rattle.console.specs.Replies.{Answers, Replies}

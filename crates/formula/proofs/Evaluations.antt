@@ -1,15 +1,15 @@
 -- The value of a formula from the values of its parts. Assumes nothing.
 use Rattle.std.proofs.Common.{◌≡◌, ℕ, ◌+◌, ◌-◌, ◌<◌, ◌≤◌, Bool, true, not, ◌&&◌, ◌||◌, List, [], ◌∷◌, ◌++◌, length, get_or, take, sym, refl, ap, ◌∙◌, subst, arith, length-append}
 use Rattle.std.proofs.lemmas.List.Sums.{sum_by_more, sum_by-append}
-use Rattle.formula.specs.Atoms.{Atom, atom, value, width, bit_of}
+use Rattle.formula.specs.Atoms.{atom, value, width, bit_of}
 use Rattle.formula.specs.Evaluated.{Evaluated}
 use Rattle.formula.specs.Ltl.{Ltl, top, fact, enabled, taken, neg, or, next, until}
 use Rattle.formula.specs.Stack.{sound, push, sub}
 use Rattle.formula.specs.Table.{table, size, arity, elementary, weight}
 use Rattle.formula.specs.declared.entry.Entry.{Entry}
-use Rattle.formula.specs.declared.entry.Entry.TheVariants.{True, Fact, Enabled, Taken, Not, Or, Next, Until}
+use Rattle.formula.specs.declared.entry.Entry.TheVariants.{True, Not, Or, Next, Until}
 use Rattle.formula.specs.declared.evaluate.Part.{Part}
-use Rattle.formula.proofs.Parts.{One, Two, first_end, with_none, with_one, with_two}
+use Rattle.formula.proofs.Parts.{first_end, with_none, with_one, with_two}
 
 -- a formula has a bit for each elementary entry of its table
 pub weight_table : (f : Ltl) → weight (table f) ≡ width f

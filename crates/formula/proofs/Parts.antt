@@ -5,7 +5,7 @@ use Rattle.formula.specs.Ltl.{Ltl, top, fact, enabled, taken, neg, or, next, unt
 use Rattle.formula.specs.Table.{table, tables, size, arity}
 use Rattle.formula.specs.Stack.{sound, push, stack, latest, tree, sub}
 use Rattle.formula.specs.declared.entry.Entry.{Entry}
-use Rattle.formula.specs.declared.entry.Entry.TheVariants.{True, Fact, Enabled, Taken, Not, Or, Next, Until}
+use Rattle.formula.specs.declared.entry.Entry.TheVariants.{True, Not, Or, Next, Until}
 use Rattle.formula.proofs.Stacks.{stack_append, tables_back, stacked, sound_left, sound_last}
 
 pub some_size : (f : Ltl) → 1 ≤ size f

@@ -9,7 +9,7 @@ use Rattle.refusal.proofs.Same.{same}
 use Rattle.formula.specs.Ltl.{Ltl}
 use Rattle.formula.specs.Stack.{sound, depth, stack, tree}
 use Rattle.formula.specs.Table.{table, tables, arity, weight}
-use Rattle.formula.specs.Words.{kind_of, argument_of, Spells, count, Counted, Lists, Unspelled, Lacks, Several, Granted, Refused, by_length, by_entry, by_parts, by_number, by_weight, OneTree}
+use Rattle.formula.specs.Words.{kind_of, argument_of, Spells, Counted, Lists, Unspelled, Lacks, Several, Granted, Refused, by_length, by_entry, by_parts, by_number, by_weight, OneTree}
 use Rattle.formula.specs.declared.entry.Entry.{Entry}
 use Rattle.formula.specs.declared.entry.Entry.TheVariants.{True, Fact, Enabled, Taken, Not, Or, Next, Until}
 use Rattle.formula.proofs.Stacks.{Stands, then, stands, sound_left, sound_last, tables_back, tree_back}

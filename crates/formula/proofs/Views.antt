@@ -2,7 +2,7 @@
 use Rattle.std.proofs.Common.{◌≡◌, ℕ, ◌+◌, ◌-◌, ◌<◌, ◌≤◌, true, length, take, drop, ap, ◌∙◌, arith, take-append-drop, length-take-le}
 use native.Mathlib.Nat.{sub-zero}
 use Rattle.std.proofs.lemmas.List.Sums.{sum_by-append}
-use Rattle.formula.specs.Atoms.{atom, value, width}
+use Rattle.formula.specs.Atoms.{atom, value}
 use Rattle.formula.specs.Evaluated.{Evaluated, value_at, offset_of}
 use Rattle.formula.specs.Stack.{sound, sub, tree}
 use Rattle.formula.specs.Table.{table, size, elementary, weight}

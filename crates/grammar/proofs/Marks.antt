@@ -1,5 +1,5 @@
 -- The bytes that begin or join phrases. Assumes nothing.
-use Rattle.std.proofs.Common.{◌≡◌, ℕ, ◌≤◌, true, false, cond, ◌&&◌, eqb, ltb, leb, List, [], ◌∷◌, ◌++◌, Some, None, Option, sym, refl, subst, append_assoc, arith}
+use Rattle.std.proofs.Common.{◌≡◌, ℕ, ◌≤◌, true, false, cond, eqb, ltb, leb, List, [], ◌∷◌, ◌++◌, Some, None, Option, sym, refl, subst, append_assoc, arith}
 use Rattle.std.proofs.lemmas.Bool.{cond_both, eqb-true, and_parts, leb-true, ltb-true}
 use Rattle.grammar.specs.Phrases.{opening, letter, sign}
 use Rattle.grammar.specs.Machine.{Mark, mark_truth, mark_pair, mark_none, mark_name, mark_prefix, mark_of, joint_of, digit}

@@ -1,12 +1,12 @@
 -- Where a number out of range stops a text. Assumes nothing.
-use Rattle.std.proofs.Common.{◌≡◌, ℕ, zero, suc, ◌+◌, ◌-◌, ◌*◌, ◌<◌, ◌≤◌, Bool, true, false, cond, eqb, ltb, ◌⊎◌, List, [], ◌∷◌, ◌++◌, length, get_or, take, sym, refl, ap, ◌∙◌, subst, inl, inr, ⊎_elim, arith}
+use Rattle.std.proofs.Common.{◌≡◌, ℕ, zero, suc, ◌+◌, ◌-◌, ◌*◌, ◌≤◌, true, false, cond, eqb, ltb, List, [], ◌∷◌, ◌++◌, get_or, take, sym, refl, ap, ◌∙◌, subst, ⊎_elim, arith}
 use Rattle.std.proofs.lemmas.Bool.{cond_both, cond-true, cond-false, eqb-false, ltb-false, both_ways, cases_Bool}
 use Rattle.refusal.specs.Causes.{Gives}
 use Rattle.refusal.specs.declared.Layer.TheVariants.{Text}
 use Rattle.refusal.specs.declared.Refusal.{Refusal}
 use Rattle.grammar.specs.Phrases.{opening, loose, strict, Begins}
 use Rattle.grammar.specs.Texts.{OutAt, NumberThere, Refused, by_length, by_byte, by_end, by_range, by_table}
-use Rattle.grammar.specs.Machine.{Part, phrase, op, num, more, lit, Move, stop, to, joint_of, digit, name_parts, begin, across, move}
+use Rattle.grammar.specs.Machine.{Part, phrase, op, num, more, lit, Move, stop, to, digit, name_parts, begin, across, move}
 use Rattle.grammar.specs.declared.Name.{Name}
 use Rattle.grammar.specs.declared.Name.TheVariants.{Fact, Enabled, Taken}
 use Rattle.grammar.proofs.Alive.{go, alive, go_stop, begins_alive}

@@ -1,8 +1,8 @@
 -- A text has at most one reading: a function reads each phrase back. Assumes nothing.
-use Rattle.std.proofs.Common.{◌≡◌, ℕ, zero, suc, ◌+◌, ◌-◌, ◌*◌, ◌/◌, ◌%◌, ◌<◌, ◌≤◌, true, false, cond, eqb, ltb, leb, List, [], ◌∷◌, ◌++◌, length, Some, None, Option, sym, refl, ap, ◌∙◌, ⊎_elim, append_assoc, append-nil, arith, length-append}
+use Rattle.std.proofs.Common.{◌≡◌, ℕ, zero, suc, ◌+◌, ◌-◌, ◌*◌, ◌/◌, ◌%◌, ◌<◌, ◌≤◌, true, cond, eqb, ltb, List, [], ◌∷◌, ◌++◌, length, Some, None, Option, sym, refl, ap, ◌∙◌, ⊎_elim, append_assoc, append-nil, arith, length-append}
 use Rattle.std.proofs.lemmas.Bool.{cases_lt, cond-true, cond-false, lt-ltb, le-ltb}
 use Rattle.std.proofs.lemmas.Bool.Decides.{nat_tests}
-use Rattle.grammar.specs.Phrases.{Phrase, truth, named, prefixed, joined, digits, opening, closing, letter, sign, write, Within, loose, OneReading}
+use Rattle.grammar.specs.Phrases.{Phrase, truth, named, prefixed, joined, digits, closing, sign, write, Within, loose, OneReading}
 use Rattle.grammar.specs.Machine.{Mark, mark_truth, mark_pair, mark_none, mark_name, mark_prefix, mark_of, joint_of, digit}
 use Rattle.grammar.specs.declared.Name.{Name}
 use Rattle.grammar.specs.declared.Name.TheVariants.{Fact, Enabled, Taken}

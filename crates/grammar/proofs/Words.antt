@@ -1,7 +1,7 @@
 -- What has a move at each byte begins a phrase. Assumes nothing.
-use Rattle.std.proofs.Common.{◌≡◌, ℕ, ◌+◌, ◌-◌, ◌*◌, ◌<◌, ◌≤◌, true, cond, ◌&&◌, eqb, ltb, ◌⊎◌, List, [], ◌∷◌, ◌++◌, Option, sym, refl, ap, ◌∙◌, subst, inl, inr, ⊎_elim, append_assoc, append-nil, arith}
+use Rattle.std.proofs.Common.{◌≡◌, ℕ, ◌+◌, ◌-◌, ◌*◌, ◌<◌, ◌≤◌, true, cond, eqb, ltb, ◌⊎◌, List, [], ◌∷◌, ◌++◌, sym, refl, ap, ◌∙◌, subst, inl, inr, ⊎_elim, append_assoc, append-nil, arith}
 use Rattle.std.proofs.lemmas.Bool.{cond_both, ltb-true, eqb-true, eqb-false}
-use Rattle.grammar.specs.Phrases.{Phrase, truth, named, prefixed, joined, digits, opening, closing, letter, sign, write, Within, Begins}
+use Rattle.grammar.specs.Phrases.{Phrase, truth, named, prefixed, joined, digits, opening, letter, sign, write, Within, Begins}
 use Rattle.grammar.specs.Machine.{Part, phrase, op, num, more, lit, Move, stop, to, mark_of, digit, name_parts, begin, across, move}
 use Rattle.grammar.specs.declared.Name.{Name}
 use Rattle.grammar.specs.declared.Name.TheVariants.{Fact, Enabled, Taken}

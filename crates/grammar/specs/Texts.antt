@@ -1,11 +1,11 @@
 -- Which texts are granted, with which table, and which are refused. Assumes nothing.
-use Rattle.std.specs.Prelude.{◌≡◌, ℕ, ◌+◌, ◌-◌, ◌*◌, ◌<◌, ◌≤◌, ◌⊎◌, List, length, take, slice_index, slice_index_or}
+use Rattle.std.specs.Prelude.{◌≡◌, ℕ, ◌+◌, ◌-◌, ◌*◌, ◌<◌, ◌≤◌, List, length, take, slice_index, slice_index_or}
 use Rattle.refusal.specs.Causes.{Gives}
 use Rattle.refusal.specs.declared.Layer.TheVariants.{Text}
 use Rattle.refusal.specs.declared.Refusal.{Refusal}
 use Rattle.formula.specs.Table.{table, weight}
 use Rattle.formula.specs.declared.entry.Entry.{Entry}
-use Rattle.grammar.specs.Phrases.{Phrase, opening, mean, strict, loose, Is, Begins}
+use Rattle.grammar.specs.Phrases.{opening, mean, strict, loose, Is, Begins}
 use Rattle.grammar.specs.declared.Name.{Name}
 
 -- 1 to 256 bytes

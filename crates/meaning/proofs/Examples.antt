@@ -4,7 +4,7 @@ use Rattle.std.proofs.lemmas.Bool.{cases_lt, both_ways, ltb-true}
 use Rattle.formula.specs.Ltl.{Ltl, top, fact, taken, neg, next, until}
 use Rattle.meaning.specs.Systems.{System, HasArc}
 use Rattle.meaning.specs.Paths.{Within}
-use Rattle.meaning.specs.Runs.{Run, places, state_at, event_at, unroll, IsRun, round, stuck, Satisfies, Violates}
+use Rattle.meaning.specs.Runs.{Run, places, state_at, event_at, unroll, round, stuck, Satisfies, Violates}
 use Rattle.meaning.specs.Truth.{truth}
 use Rattle.meaning.specs.Claims.{A, B, Q, D, O, finally, globally, Twelve}
 use Rattle.meaning.proofs.Places.{within_loop, to_line}

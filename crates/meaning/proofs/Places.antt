@@ -1,7 +1,7 @@
 -- Positions of the path of a run, and its places. Assumes nothing.
-use Rattle.std.proofs.Common.{◌≡◌, ℕ, zero, suc, ◌+◌, ◌<◌, ◌≤◌, Bool, true, false, cond, ◌||◌, ltb, ◌⊎◌, Decides, sym, refl, ap, ◌∙◌, subst, inl, inr, ⊎_elim, arith}
-use Rattle.std.proofs.lemmas.Bool.{cases_lt, lt-ltb, le-ltb, ltb-true, cond-true, cond-false, or_right, or_left, or_cases, both_ways}
-use Rattle.meaning.specs.Paths.{Len, endless, ends, Within}
+use Rattle.std.proofs.Common.{◌≡◌, ℕ, zero, suc, ◌+◌, ◌<◌, ◌≤◌, Bool, true, cond, ltb, ◌⊎◌, Decides, sym, refl, ◌∙◌, subst, inl, inr, ⊎_elim, arith}
+use Rattle.std.proofs.lemmas.Bool.{cases_lt, lt-ltb, le-ltb, ltb-true, cond-true, cond-false, or_right, or_left, or_cases}
+use Rattle.meaning.specs.Paths.{endless, ends, Within}
 use Rattle.meaning.specs.Runs.{Run, places, after, place, unroll}
 use Rattle.meaning.specs.Truth.{goes}
 

@@ -1,5 +1,5 @@
 -- The test of a formula at a place is right. Assumes nothing.
-use Rattle.std.proofs.Common.{◌≡◌, ℕ, zero, suc, ◌+◌, ◌-◌, ◌/◌, ◌%◌, ◌^◌, ◌<◌, ◌≤◌, Bool, true, false, cond, not, ◌&&◌, ◌||◌, eqb, ltb, leb, ◌⊎◌, List, [], ◌∷◌, length, get_or, Decides, sym, refl, ap, ◌∙◌, subst, inl, inr, ⊎_elim, arith}
+use Rattle.std.proofs.Common.{◌≡◌, ℕ, zero, suc, ◌+◌, ◌-◌, ◌<◌, ◌≤◌, true, ◌||◌, eqb, ◌⊎◌, List, [], ◌∷◌, length, get_or, Decides, sym, refl, subst, inl, inr, ⊎_elim, arith}
 use Rattle.std.proofs.lemmas.Bool.{cases_eq, and_parts, and_from, false≢true}
 use Rattle.std.proofs.lemmas.Bool.Decides.{Decides-eqb, Decides-not, Decides-and, Decides-or, Decides-like}
 use Rattle.formula.specs.Ltl.{Ltl, top, fact, enabled, taken, neg, or, next, until}
@@ -7,10 +7,10 @@ use Rattle.meaning.specs.declared.Arc.{Arc}
 use Rattle.meaning.specs.Systems.{System, no_arc}
 use Rattle.meaning.specs.Paths.{Within, Holds}
 use Rattle.meaning.specs.Runs.{Run, places, event_at, after, place, unroll}
-use Rattle.meaning.specs.Truth.{goes, sweep, truth, bears}
+use Rattle.meaning.specs.Truth.{goes, truth, bears}
 use Rattle.meaning.specs.Claims.{Decided}
 use Rattle.meaning.proofs.Places.{goes_on, inside, down}
-use Rattle.meaning.proofs.Sweeps.{Soon, here, later, Ever, until_decides}
+use Rattle.meaning.proofs.Sweeps.{Soon, here, later, until_decides}
 
 abbrev Bears : ℕ → List Arc → Type 0
 Bears t xs = (j : ℕ) × (j < length xs) × ((get_or xs j no_arc).event ≡ t)

@@ -1,6 +1,6 @@
 -- The two sweeps of a U over a run's places are right. Assumes nothing.
-use Rattle.std.proofs.Common.{◌≡◌, ℕ, zero, suc, ◌+◌, ◌-◌, ◌<◌, ◌≤◌, Bool, true, false, cond, ◌&&◌, ◌||◌, ◌⊎◌, Decides, sym, refl, ap, ◌∙◌, subst, inl, inr, ⊎_elim, add-zero, arith}
-use Rattle.std.proofs.lemmas.Bool.{cases_lt, both_ways, or_cases, or_parts, and_parts, and_cases, cases_Bool}
+use Rattle.std.proofs.Common.{◌≡◌, ℕ, zero, suc, ◌+◌, ◌-◌, ◌<◌, Bool, true, false, ◌&&◌, Decides, sym, refl, subst, ⊎_elim, arith}
+use Rattle.std.proofs.lemmas.Bool.{both_ways, or_cases, or_parts, and_parts, and_cases, cases_Bool}
 use Rattle.meaning.specs.Runs.{Run, places, after}
 use Rattle.meaning.specs.Truth.{goes, sweep}
 use Rattle.meaning.proofs.Places.{after_mid, after_last, goes_loop, goes_mid, goes_cases}

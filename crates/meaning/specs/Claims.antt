@@ -1,6 +1,6 @@
 -- What this crate proves: the test is right, and the worked examples. Relies on Truth.
-use Rattle.std.specs.Prelude.{ℕ, ◌<◌, List, [], ◌∷◌, Decides, slice_index, slice_index_or}
-use Rattle.formula.specs.Ltl.{Ltl, top, fact, enabled, taken, neg, or, next, until}
+use Rattle.std.specs.Prelude.{ℕ, ◌<◌, [], ◌∷◌, Decides, slice_index, slice_index_or}
+use Rattle.formula.specs.Ltl.{Ltl, top, fact, taken, neg, next, until}
 use Rattle.meaning.specs.declared.Arc.{Arc}
 use Rattle.meaning.specs.Systems.{System}
 use Rattle.meaning.specs.Paths.{Within, Holds}

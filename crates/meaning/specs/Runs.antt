@@ -1,8 +1,8 @@
 -- Runs: finite writings of paths that end in a deadlock or go round a loop. Relies on Systems and Paths.
-use Rattle.std.specs.Prelude.{◌≡◌, ℕ, zero, suc, ◌+◌, ◌-◌, ◌<◌, ◌≤◌, cond, ◌⊎◌, List, length, nat_lt, slice_index}
+use Rattle.std.specs.Prelude.{◌≡◌, ℕ, zero, suc, ◌+◌, ◌-◌, ◌<◌, ◌≤◌, cond, List, length, nat_lt, slice_index}
 use Rattle.formula.specs.Ltl.{Ltl}
 use Rattle.meaning.specs.Systems.{System, HasArc, Deadlock, Initial}
-use Rattle.meaning.specs.Paths.{Path, Len, endless, ends, Holds}
+use Rattle.meaning.specs.Paths.{Path, endless, ends, Holds}
 
 -- the states and events of m places, and the place that the last one leads back to, or m where it leads nowhere
 pub record Run : Type 0 where

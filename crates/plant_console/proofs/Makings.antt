@@ -1,5 +1,5 @@
 -- A plant that was not made leaves all as before. Assumes nothing.
-use Rattle.std.proofs.Common.{◌≡◌, ℕ, List, refl}
+use Rattle.std.proofs.Common.{ℕ, List, refl}
 use Rattle.refusal.specs.Rows.{Row, First}
 use Rattle.plant.specs.Making.{Failed}
 use Rattle.plant.specs.Model.{Model}

@@ -1,5 +1,5 @@
 -- Each kind of line has its one reply. Assumes nothing.
-use Rattle.std.proofs.Common.{◌≡◌, ℕ, List, [], ◌∷◌, ◌++◌, codes, sym, refl, subst}
+use Rattle.std.proofs.Common.{◌≡◌, ℕ, List, [], ◌∷◌, ◌++◌, codes, refl, subst}
 use Rattle.plant_script.specs.Says.{Meaning, Says, Skipped, Plain}
 use Rattle.plant_console.specs.Replies.{State, Answers, Replies}
 

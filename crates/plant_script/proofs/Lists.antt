@@ -1,6 +1,6 @@
 -- Lists that are read from the front, one item at a time. Relies on Cuts.
-use Rattle.std.proofs.Common.{◌≡◌, ℕ, ◌<◌, List, [], ◌∷◌, ◌++◌, sym, refl, ap, ◌∙◌, subst, append_assoc, append-nil}
-use Rattle.plant_script.specs.Words.{Blank, Skips, First}
+use Rattle.std.proofs.Common.{◌≡◌, ℕ, List, [], ◌∷◌, ◌++◌, sym, refl, ◌∙◌, subst, append_assoc, append-nil}
+use Rattle.plant_script.specs.Words.{Blank}
 use Rattle.plant_script.specs.Values.{Number, Pair, Gives, NextNumber, NextPair}
 use Rattle.plant_script.proofs.Cuts.{some_none, skips_once, first_once, blank_skips, first_not_blank}
 

@@ -8,7 +8,7 @@ use Rattle.plant_script.specs.declared.calls.Word.{Word}
 use Rattle.plant_script.specs.declared.calls.Word.TheVariants.{List as ListOf, Text, Hex, Alone, One, Arc}
 use Rattle.plant_script.specs.Words.{Cut}
 use Rattle.plant_script.specs.Values.{Numbers}
-use Rattle.plant_script.specs.Says.{spelled, every, Meaning, list, text, alone, one, arc, Given, Says, Skipped, Plain}
+use Rattle.plant_script.specs.Says.{spelled, every, Meaning, list, text, one, arc, Given, Says, Skipped, Plain}
 use Rattle.plant_script.proofs.Cuts.{cut_once}
 use Rattle.plant_script.proofs.Lists.{steady_number, steady_pair, gives_once}
 

@@ -1,5 +1,5 @@
 -- Where the rows of a formula's entries stand. Assumes nothing.
-use Rattle.std.proofs.Common.{◌≡◌, ℕ, ◌+◌, ◌-◌, ◌*◌, ◌<◌, ◌≤◌, Bool, true, eqb, ◌⊎◌, List, length, get_or, sym, refl, ap, ◌∙◌, ⊎_elim, add-mul, one-mul, arith}
+use Rattle.std.proofs.Common.{◌≡◌, ℕ, ◌+◌, ◌-◌, ◌*◌, ◌<◌, ◌≤◌, Bool, true, ◌⊎◌, List, length, get_or, sym, refl, ap, ◌∙◌, ⊎_elim, add-mul, one-mul, arith}
 use Rattle.formula.specs.Ltl.{Ltl, neg, next, or, until}
 use Rattle.meaning.specs.Systems.{System}
 use Rattle.meaning.specs.Runs.{Run, places}
@@ -7,9 +7,9 @@ use Rattle.meaning.specs.Truth.{truth}
 use Rattle.formula.specs.declared.entry.Entry.{Entry}
 use Rattle.formula.specs.declared.entry.Entry.TheVariants.{True, Fact, Enabled, Taken, Not, Or, Next, Until}
 use Rattle.formula.specs.Stack.{sound, sub}
-use Rattle.formula.specs.Table.{size, arity}
-use Rattle.formula.proofs.Parts.{some_size, first_end, with_one, with_two, at_entry}
-use Rattle.formula.proofs.Sizes.{Sized1, Sized2, size_leaf, size_one, size_two}
+use Rattle.formula.specs.Table.{size}
+use Rattle.formula.proofs.Parts.{some_size, with_one, with_two, at_entry}
+use Rattle.formula.proofs.Sizes.{Sized1, Sized2}
 use Rattle.rows.specs.Cells.{cell}
 use Rattle.rows.proofs.Turns.{cell_same}
 

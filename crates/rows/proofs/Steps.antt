@@ -1,9 +1,9 @@
 -- What a turn of a sweep keeps. Assumes nothing.
-use Rattle.std.proofs.Common.{◌≡◌, ℕ, zero, suc, ◌+◌, ◌-◌, ◌<◌, ◌≤◌, Bool, true, false, cond, ◌&&◌, ◌||◌, eqb, ◌≢◌, List, length, get_or, set, sym, refl, ap, ◌∙◌, subst, ⊎_elim, arith, get_or-set_other, get_or-set_same}
+use Rattle.std.proofs.Common.{◌≡◌, ℕ, zero, suc, ◌+◌, ◌-◌, ◌<◌, ◌≤◌, Bool, true, false, ◌&&◌, ◌||◌, eqb, ◌≢◌, List, length, get_or, set, sym, refl, ap, ◌∙◌, ⊎_elim, arith, get_or-set_other, get_or-set_same}
 use mir.Val.{bool_byte}
 use Rattle.std.proofs.lemmas.Bool.{cases_eq}
 use Rattle.meaning.specs.Truth.{sweep}
-use Rattle.rows.specs.Rows.{on, Row, SameBelow}
+use Rattle.rows.specs.Rows.{on, SameBelow}
 
 pub sweep_step : (f g : ℕ → Bool) (last : Bool) (m p : ℕ) → p < m → sweep f g last (m - p) p ≡ (g p || (f p && sweep f g last (m - (p + 1)) (p + 1)))
 sweep_step f g last m p h = let n : m - p ≡ suc (m - (p + 1)) = omega arith in ap (λ d. sweep f g last d p) n

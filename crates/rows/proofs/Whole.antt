@@ -1,5 +1,5 @@
 -- The row of a formula's last entry, which is the whole formula's. Assumes nothing.
-use Rattle.std.proofs.Common.{◌≡◌, ℕ, ◌+◌, ◌-◌, ◌*◌, ◌≤◌, length, take, sym, refl, ap, ◌∙◌, add-mul, one-mul, arith, take_all}
+use Rattle.std.proofs.Common.{◌≡◌, ℕ, ◌+◌, ◌-◌, ◌*◌, length, take, sym, ap, ◌∙◌, add-mul, one-mul, arith, take_all}
 use Rattle.formula.specs.Stack.{sub, tree}
 use Rattle.formula.specs.Table.{size}
 use Rattle.formula.specs.View.{entries_of, tree_of}

@@ -1,5 +1,5 @@
 -- A fault is refused by its row. Relies on refusal's theorems.
-use Rattle.std.proofs.Common.{◌≡◌, ℕ, Bool, List, [], ◌∷◌, refl, subst, inl, inr}
+use Rattle.std.proofs.Common.{ℕ, Bool, [], ◌∷◌, subst, inl, inr}
 use Rattle.refusal.specs.declared.Refusal.{Refusal}
 use Rattle.refusal.specs.Rows.{First, Lowest, Fails}
 use Rattle.refusal.proofs.Settled.{one_lowest}

@@ -1,10 +1,10 @@
 -- When a place of a run is wrong. Assumes nothing.
-use Rattle.std.proofs.Common.{◌≡◌, ℕ, ◌+◌, ◌-◌, ◌<◌, ◌≤◌, Bool, true, false, ◌⊎◌, length, sym, refl, ap, ◌∙◌, subst, inl, inr, ⊎_elim, arith}
+use Rattle.std.proofs.Common.{◌≡◌, ℕ, ◌+◌, ◌-◌, ◌<◌, ◌≤◌, Bool, true, sym, ◌∙◌, subst, inl, inr, ⊎_elim, arith}
 use Rattle.std.proofs.lemmas.Bool.{cases_lt}
 use Rattle.meaning.specs.Systems.{System, HasArc, Deadlock, Initial}
-use Rattle.meaning.specs.Runs.{Run, places, state_at, event_at, after, Closes, round, stuck}
+use Rattle.meaning.specs.Runs.{Run, places, state_at, event_at, Closes, round, stuck}
 use Rattle.meaning.proofs.Places.{after_mid, after_last}
-use Rattle.runs.specs.Tests.{Closed, Wrong, start, arc, ending, Bad}
+use Rattle.runs.specs.Tests.{Wrong, start, arc, ending, Bad}
 use Rattle.runs.specs.Faults.{Bears, GoesOn}
 
 module _ (M : System) (r : Run) (low : r.back ≤ places r) (i : ℕ) (within : i < places r) where

@@ -1,5 +1,5 @@
 -- What a book tells of a system. Relies on book.
-use Rattle.std.specs.Prelude.{ℕ, Bool, List, [], is_some, Some, None, Option}
+use Rattle.std.specs.Prelude.{ℕ, Bool, List, is_some, Some, None, Option}
 use Rattle.meaning.specs.Systems.{System}
 use Rattle.meaning.specs.Runs.{Run}
 use Rattle.plant.specs.Model.{Model}

@@ -1,5 +1,5 @@
 -- What the test of a run is refused for, over a system of which some states are open. Relies on meaning's runs and refusal's tables.
-use Rattle.std.specs.Prelude.{◌≡◌, ℕ, ◌+◌, ◌*◌, ◌<◌, ◌≤◌, Bool, true, false, ◌⊎◌, List, [], ◌∷◌, length, Some, None, Option, MatchOption, slice_index_or}
+use Rattle.std.specs.Prelude.{◌≡◌, ℕ, ◌+◌, ◌*◌, ◌<◌, ◌≤◌, Bool, false, ◌⊎◌, List, [], ◌∷◌, length, Some, None, Option, MatchOption, slice_index_or}
 use Rattle.refusal.specs.declared.Layer.TheVariants.{Session}
 use Rattle.refusal.specs.Rows.{Row, Lowest, Fails}
 use Rattle.formula.specs.declared.entry.Entry.{Entry}

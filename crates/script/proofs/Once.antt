@@ -1,10 +1,10 @@
 -- A line says one call at most. Relies on Cuts and Lists.
-use Rattle.std.proofs.Common.{◌≡◌, ℕ, ◌<◌, cond, List, ◌∷◌, ◌++◌, length, get_or, codes, sym, refl, ap, ◌∙◌, subst, arith}
+use Rattle.std.proofs.Common.{◌≡◌, ℕ, ◌<◌, cond, List, ◌++◌, length, get_or, codes, sym, refl, ap, ◌∙◌, subst, arith}
 use Rattle.std.specs.Str.{bytes_eq}
 use Rattle.script.specs.declared.calls.Word.{Word}
 use Rattle.script.specs.declared.calls.Word.TheVariants.{Formula, Text, Hex, Help}
 use Rattle.script.specs.Words.{Cut}
-use Rattle.script.specs.Says.{spelled, every, Meaning, formula, text, help, Given, Says, Skipped, Plain}
+use Rattle.script.specs.Says.{spelled, every, Meaning, formula, text, Given, Says, Skipped, Plain}
 use Rattle.script.proofs.Cuts.{cut_once}
 use Rattle.script.proofs.Lists.{steady_number, steady_pair, gives_once}
 

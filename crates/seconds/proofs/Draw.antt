@@ -12,7 +12,7 @@ use Rattle.tableau.specs.Along.{Fits, Follows, Along}
 use Rattle.tableau.specs.Lassos.{truths}
 use Rattle.tableau.proofs.Again.{advance, turned}
 use Rattle.tableau.proofs.Arcs.{In, in_bears, bears_in, no_arcs}
-use Rattle.tableau.proofs.Exists.{along, existence}
+use Rattle.tableau.proofs.Exists.{existence}
 use Rattle.tableau.proofs.Fairness.{fair_found}
 use Rattle.tableau.proofs.Lassoed.{low_run, run_stops, run_arc, violated_lasso}
 use Rattle.seconds.specs.Free.{PossibleMove}

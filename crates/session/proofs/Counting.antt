@@ -1,9 +1,9 @@
 -- Lists without repeats that have the same members are as long as each other. Assumes nothing.
-use Rattle.std.proofs.Common.{◌≡◌, ℕ, zero, suc, ◌+◌, ◌<◌, ◌≤◌, List, [], ◌∷◌, length, get_or, sym, refl, ◌∙◌, arith}
+use Rattle.std.proofs.Common.{◌≡◌, ℕ, zero, suc, ◌+◌, ◌<◌, ◌≤◌, List, [], ◌∷◌, length, get_or, sym, ◌∙◌, arith}
 use Rattle.std.proofs.lemmas.List.{get_or_default}
 use Rattle.plant.specs.Model.{Distinct}
 use Rattle.book.proofs.Opened.{In}
-use Rattle.session.specs.History.{Turn, is_open, Lists}
+use Rattle.session.specs.History.{Turn, Lists}
 
 -- the list without what stands at k
 without : ℕ → List ℕ → List ℕ

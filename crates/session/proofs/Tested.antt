@@ -1,15 +1,14 @@
 -- What the test of a run says over the book, it says over the plant. Relies on meaning's and refusal's theorems.
-use Rattle.std.proofs.Common.{◌≡◌, ℕ, ◌+◌, ◌-◌, ◌<◌, ◌≤◌, Bool, true, false, ◌⊎◌, List, length, get_or, is_some, IfSome, Some, None, Decides, Option, sym, refl, ap, ◌∙◌, subst, inl, inr, ⊎_elim, arith}
+use Rattle.std.proofs.Common.{◌≡◌, ℕ, ◌+◌, ◌-◌, ◌<◌, ◌≤◌, Bool, true, false, List, length, get_or, is_some, IfSome, Some, None, Decides, Option, sym, refl, ap, ◌∙◌, subst, inl, inr, ⊎_elim, arith}
 use Rattle.std.proofs.lemmas.Bool.{cases_Bool, cases_lt}
 use Rattle.refusal.specs.declared.Refusal.{Refusal}
-use Rattle.refusal.specs.Rows.{Row, Clear, First, Lowest}
-use Rattle.refusal.proofs.Settled.{Alike, AllAlike, first_alike, clear_alike, lowest_alike, no_lowest}
+use Rattle.refusal.specs.Rows.{Clear, First, Lowest}
+use Rattle.refusal.proofs.Settled.{AllAlike, first_alike, clear_alike, lowest_alike, no_lowest}
 use Rattle.formula.specs.Ltl.{Ltl}
 use Rattle.formula.specs.declared.entry.Entry.{Entry}
 use Rattle.meaning.specs.declared.Arc.{Arc}
-use Rattle.meaning.specs.Systems.{System, HasArc, Deadlock}
+use Rattle.meaning.specs.Systems.{System, HasArc}
 use Rattle.meaning.specs.Runs.{Run, places, state_at, event_at, place, unroll, Closes, round, stuck, Satisfies}
-use Rattle.meaning.specs.Paths.{Within}
 use Rattle.meaning.proofs.Agree.{Same, turned, agree}
 use Rattle.meaning.proofs.Places.{inside}
 use Rattle.meaning.proofs.Examples.{start as starts}
@@ -17,7 +16,7 @@ use Rattle.plant.specs.Model.{Model}
 use Rattle.book.specs.Records.{Saying, says}
 use Rattle.book.specs.Books.{book_of, arcs_in}
 use Rattle.book.specs.declared.book.Book.{Book}
-use Rattle.runs.specs.Tests.{Shaped, Closed, Wrong, start, arc, ending, Bad, rows}
+use Rattle.runs.specs.Tests.{Wrong, start, arc, ending, Bad, rows}
 use Rattle.runs.specs.Known.{facts_in, opens, view}
 use Rattle.session.specs.History.{Turn, is_open}
 use Rattle.session.specs.Law.{Kept}

@@ -1,7 +1,6 @@
 -- The law of a session: how each call is answered after a history. Relies on History, plant's models and refusal's tables.
-use Rattle.std.specs.Prelude.{◌≡◌, ℕ, ◌≤◌, true, false, List, [], ◌∷◌, length, is_some, IfSome, Some, None, Option, MatchOption}
+use Rattle.std.specs.Prelude.{◌≡◌, ℕ, ◌≤◌, true, false, List, [], ◌∷◌, length, is_some, IfSome, None, Option, MatchOption}
 use Rattle.refusal.specs.declared.Layer.TheVariants.{Session}
-use Rattle.refusal.specs.declared.Refusal.{Refusal}
 use Rattle.refusal.specs.Rows.{Row, Clear, First}
 use Rattle.plant.specs.Model.{Model, initial_at, arc_at}
 use Rattle.book.specs.Records.{Saying, says}

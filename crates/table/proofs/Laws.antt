@@ -1,17 +1,17 @@
 -- Words that keep every rule mean a lawful plant, and the parts read from them stand for it.
 -- Relies on Lookups, Paired, Ranges and Apart.
-use Rattle.std.proofs.Common.{◌≡◌, ℕ, zero, suc, ◌+◌, ◌-◌, ◌^◌, ◌<◌, ◌≤◌, max, List, [], ◌∷◌, length, get_or, take, vec_items, vec_len, fold, sum, sym, refl, ap, ◌∙◌, subst, ⊎_elim, arith}
+use Rattle.std.proofs.Common.{◌≡◌, ℕ, zero, suc, ◌+◌, ◌-◌, ◌^◌, ◌<◌, ◌≤◌, max, List, [], ◌∷◌, length, get_or, vec_items, vec_len, fold, sym, ap, ◌∙◌, subst, ⊎_elim, arith}
 use Rattle.std.proofs.lemmas.List.{get_or_past}
 use Rattle.std.proofs.lemmas.List.Sums.{sum_by-take-le}
 use Rattle.std.proofs.lemmas.Bool.{cases_lt}
 use Rattle.refusal.specs.Rows.{Clear}
 use Rattle.meaning.specs.declared.Arc.{Arc}
 use Rattle.meaning.specs.Systems.{no_arc}
-use Rattle.plant.specs.Model.{Distinct, Lawful}
-use Rattle.table.specs.Words.{state_count, event_count, initial_count, arc_count, at_facts, part, initials, facts, counts, events, targets, all_arcs, arcs_of, largest, meant}
+use Rattle.plant.specs.Model.{Lawful}
+use Rattle.table.specs.Words.{state_count, arc_count, at_facts, part, facts, counts, events, targets, all_arcs, arcs_of, largest, meant}
 use Rattle.table.specs.Refused.{rows}
 use Rattle.table.specs.Parts.{model_of, first_arc}
-use Rattle.table.specs.Sections.{Measured, Kept}
+use Rattle.table.specs.Sections.{Kept}
 use Rattle.table.specs.Granted.{Read}
 use Rattle.table.specs.declared.parts.Parts.{Parts}
 use Rattle.table.proofs.Lookups.{part_at, part_short, part_inside}

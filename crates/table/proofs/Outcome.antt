@@ -1,11 +1,10 @@
 -- Words have one answer. Relies on refusal's theorems.
-use Rattle.std.proofs.Common.{◌≡◌, ℕ, List, Ok, Err, Result, sym, ap, ◌∙◌, subst, MatchResult}
+use Rattle.std.proofs.Common.{◌≡◌, ℕ, List, Err, Result, sym, ap, ◌∙◌}
 use Rattle.refusal.specs.declared.Refusal.{Refusal}
 use Rattle.refusal.specs.Rows.{Clear, First}
 use Rattle.refusal.proofs.Settled.{AllSteady, one_lowest, one_fails, one_refusal, not_both}
-use Rattle.plant.specs.Making.{Failed}
 use Rattle.plant.specs.declared.Failure.{Failure}
-use Rattle.plant.specs.declared.Failure.TheVariants.{Refused, OutOfMemory}
+use Rattle.plant.specs.declared.Failure.TheVariants.{Refused}
 use Rattle.table.specs.Refused.{rows}
 
 steady : (ws : List ℕ) → AllSteady (rows ws)

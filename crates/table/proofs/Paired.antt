@@ -1,5 +1,5 @@
 -- Arcs from two parallel arrays. Assumes nothing.
-use Rattle.std.proofs.Common.{◌≡◌, ℕ, zero, suc, ◌+◌, ◌<◌, ◌≤◌, List, [], ◌∷◌, length, get_or, take, drop, sym, refl, ap, ◌∙◌, arith}
+use Rattle.std.proofs.Common.{◌≡◌, ℕ, zero, suc, ◌<◌, List, [], ◌∷◌, length, get_or, take, drop, refl, ap, arith}
 use Rattle.meaning.specs.declared.Arc.{Arc}
 use Rattle.table.specs.Words.{paired}
 

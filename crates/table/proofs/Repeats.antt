@@ -1,5 +1,5 @@
 -- What stands again in a list, and lists in which nothing does. Relies on Paired.
-use Rattle.std.proofs.Common.{◌≡◌, ℕ, ◌-◌, ◌<◌, Bool, true, List, length, get_or, take, Decides, sym, refl, ap, ◌∙◌, subst, arith, length-take-le, get_or-take}
+use Rattle.std.proofs.Common.{◌≡◌, ℕ, ◌-◌, ◌<◌, Bool, List, length, get_or, take, Decides, sym, ap, ◌∙◌, arith, length-take-le, get_or-take}
 use native.Mathlib.Nat.{sub-zero}
 use Rattle.std.specs.List.{HoldsAt}
 use Rattle.std.proofs.lemmas.List.{get_or_default}

@@ -1,8 +1,7 @@
 -- Table plants as words: S, E, I and A; I initial states; S facts; S arc counts; A events; A targets. Assumes nothing.
-use Rattle.std.specs.Prelude.{◌≡◌, ℕ, ◌+◌, ◌*◌, ◌<◌, ◌≤◌, max, ◌⊎◌, List, [], ◌∷◌, map, length, take, drop, fold, sum, slice_index}
+use Rattle.std.specs.Prelude.{ℕ, ◌+◌, max, List, map, take, drop, fold, sum, slice_index}
 use Rattle.std.specs.List.{zip}
 use Rattle.meaning.specs.declared.Arc.{Arc}
-use Rattle.meaning.specs.Systems.{no_arc}
 use Rattle.plant.specs.Model.{Model}
 
 -- S, how many states

@@ -1,11 +1,11 @@
 -- Phrases from their parts. Assumes nothing.
-use Rattle.std.proofs.Common.{◌≡◌, ℕ, ◌+◌, ◌*◌, ◌<◌, ◌≤◌, cond, eqb, List, [], ◌∷◌, ◌++◌, length, Ok, Err, Result, sym, refl, ap, ◌∙◌, subst, append_assoc, append-nil, arith, MatchResult}
+use Rattle.std.proofs.Common.{◌≡◌, ℕ, ◌<◌, eqb, List, [], ◌∷◌, ◌++◌, Ok, Err, Result, sym, refl, ap, ◌∙◌, subst, append_assoc, append-nil, arith, MatchResult}
 use Rattle.std.proofs.lemmas.Bool.{cond-false, ne_eqb}
 use Rattle.formula.specs.Table.{table}
 use Rattle.formula.specs.declared.entry.Entry.{Entry}
-use Rattle.formula.specs.declared.entry.Entry.TheVariants.{True, Fact, Enabled, Taken, Not, Or, Next, Until}
+use Rattle.formula.specs.declared.entry.Entry.TheVariants.{True, Fact, Enabled, Taken, Or, Until}
 use Rattle.grammar.specs.Machine.{Part, phrase, op, num, lit, name_parts, mark_of, mark_none, begin, outcome}
-use Rattle.grammar.specs.Phrases.{Phrase, truth, named, prefixed, joined, digits, opening, closing, letter, sign, naming, write, mean, strict}
+use Rattle.grammar.specs.Phrases.{Phrase, truth, named, prefixed, joined, digits, opening, letter, sign, write, mean}
 use Rattle.grammar.specs.declared.Fault.{Fault}
 use Rattle.grammar.specs.declared.Fault.TheVariants.{Byte}
 use Rattle.grammar.specs.declared.Joint.{Joint}

@@ -1,14 +1,14 @@
 -- One character more, and the parts that are read by one or two. Assumes nothing.
-use Rattle.std.proofs.Common.{◌≡◌, ℕ, ◌+◌, ◌-◌, ◌*◌, ◌<◌, ◌≤◌, true, false, cond, ◌&&◌, eqb, ltb, leb, ◌⊎◌, List, [], ◌∷◌, ◌++◌, length, None, sym, refl, ap, ◌∙◌, subst, ⊎_elim, arith}
+use Rattle.std.proofs.Common.{◌≡◌, ℕ, ◌+◌, ◌-◌, ◌*◌, ◌<◌, ◌≤◌, true, false, eqb, ltb, ◌⊎◌, List, [], ◌∷◌, ◌++◌, length, None, sym, refl, ap, ◌∙◌, subst, ⊎_elim, arith}
 use Rattle.std.proofs.lemmas.Bool.{cond-true, cond-false, ne_eqb, eq-eqb, lt-ltb, le-ltb}
 use Rattle.std.proofs.lemmas.Bool.Decides.{nat_tests}
-use Rattle.grammar.specs.Machine.{Part, op, num, more, lit, Move, stop, to, joint_of, across, digit, move, final, not, fault, on, outcome}
+use Rattle.grammar.specs.Machine.{Part, op, num, more, lit, stop, to, joint_of, across, digit, move, final, not, fault, on, outcome}
 use Rattle.grammar.specs.Phrases.{digits, loose, strict, sign}
 use Rattle.grammar.specs.declared.Name.{Name}
 use Rattle.grammar.specs.declared.Name.TheVariants.{Fact, Enabled, Taken}
 use Rattle.grammar.specs.declared.Joint.{Joint}
 use Rattle.grammar.specs.declared.Fault.{Fault}
-use Rattle.grammar.specs.declared.Fault.TheVariants.{Byte, End, Number}
+use Rattle.grammar.specs.declared.Fault.TheVariants.{Byte, Number}
 use Rattle.grammar.proofs.Digits.{one_digit, two_digits}
 use Rattle.grammar.proofs.Marks.{joint_sign, Clear}
 use Rattle.text.specs.Spelled.{left, Char, Ended, Took, Failed}

@@ -1,8 +1,8 @@
 -- The whole text. Assumes nothing.
-use Rattle.std.proofs.Common.{◌≡◌, ℕ, ◌+◌, ◌-◌, ◌<◌, ◌≤◌, true, ◌&&◌, List, [], ◌∷◌, ◌++◌, length, take, Ok, Err, Result, sym, refl, ap, ◌∙◌, subst, append-nil, arith, MatchResult}
+use Rattle.std.proofs.Common.{◌≡◌, ℕ, ◌-◌, ◌<◌, ◌≤◌, true, List, [], ◌∷◌, ◌++◌, length, take, Ok, Err, Result, sym, refl, ap, ◌∙◌, subst, append-nil, arith, MatchResult}
 use native.Mathlib.Nat.{sub-zero}
 use Rattle.draft.specs.Drafts.{Drafted}
-use Rattle.formula.specs.Ltl.{Ltl, top, fact, enabled, taken, neg, or, next, until}
+use Rattle.formula.specs.Ltl.{Ltl, top, neg, or, until}
 use Rattle.formula.specs.Stack.{in_range, tree}
 use Rattle.formula.specs.Table.{table, ranged, weight}
 use Rattle.formula.specs.View.{entries_of}
@@ -12,7 +12,7 @@ use Rattle.formula.specs.declared.formula.Formula.{Formula}
 use Rattle.formula.proofs.Stacks.{tree_back}
 use Rattle.grammar.specs.Machine.{phrase, outcome, not}
 use Rattle.grammar.specs.Phrases.{Phrase, truth, named, prefixed, joined, write, mean, Within, strict, Is, OneReading}
-use Rattle.grammar.specs.Texts.{Sized, Small, Granted, Refused, by_byte, by_end, by_range, by_table, OutAt}
+use Rattle.grammar.specs.Texts.{Sized, Granted, Refused, by_byte, by_end, by_range, by_table, OutAt}
 use Rattle.grammar.specs.declared.Fault.{Fault}
 use Rattle.grammar.specs.declared.Fault.TheVariants.{Byte, End, Number}
 use Rattle.grammar.specs.declared.Joint.TheVariants.{Or as Bar, And, Implies, Until as Till}

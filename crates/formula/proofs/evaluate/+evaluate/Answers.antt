@@ -1,4 +1,4 @@
-use Rattle.std.proofs.Common.{◌≡◌, ◌+◌, ◌&&◌, ◌||◌, refl, ap, ◌∙◌, ⊎_elim, arith}
+use Rattle.std.proofs.Common.{◌+◌, ◌&&◌, ◌||◌, refl, ap, ◌∙◌, ⊎_elim, arith}
 use Rattle.formula.specs.Ltl.{fact, enabled, taken, neg, or, next, until}
 use Rattle.formula.specs.declared.entry.Entry.TheVariants.{Fact, Enabled, Taken, Not, Or, Next, Until}
 use Rattle.formula.proofs.Evaluations.{made, made_is, some_count, under, across, behind, true_value, leaf_value, not_value, next_value, or_value, until_value}

@@ -1,5 +1,4 @@
-use Rattle.std.proofs.Common.{◌≡◌, ℕ, ◌+◌, ◌<◌, ◌≢◌, length, get_or, sym, ap, ◌∙◌, subst, arith, length-set, length-take-le, get_or-set_other, get_or-take, get_or-set_same, below_more}
-use Rattle.formula.specs.declared.entry.Entry.{Entry}
+use Rattle.std.proofs.Common.{◌+◌, ◌<◌, ◌≢◌, length, get_or, sym, ◌∙◌, subst, arith, length-set, length-take-le, get_or-set_other, get_or-take, get_or-set_same, below_more}
 use Rattle.formula.specs.declared.entry.Entry.TheVariants.{True}
 use Rattle.formula.specs.Words.{Says, Spells}
 use Rattle.formula.proofs.words.listed.Goals as goal

@@ -1,6 +1,6 @@
-use Rattle.std.proofs.Common.{◌≡◌, ℕ, ◌-◌, ◌<◌, [], ◌∷◌, length, get_or, take, drop, sym, ap, ◌∙◌, subst, arith, length-drop, length-take, rules}
+use Rattle.std.proofs.Common.{◌≡◌, ◌-◌, ◌<◌, [], length, get_or, take, drop, sym, ap, subst, arith, rules}
 use Rattle.std.proofs.lemmas.List.{nil_from_length}
-use Rattle.plant_script.specs.Words.{Blank, Skips}
+use Rattle.plant_script.specs.Words.{Skips}
 use Rattle.plant_script.specs.Values.{Pair, NextPair}
 use Rattle.plant_script.proofs.Cuts.{skips_once, blank_skips, skips_blank, skips_length, by_two}
 use Rattle.plant_script.proofs.Lists.{Sofar, steady_pair, one_more, no_more, no_way}

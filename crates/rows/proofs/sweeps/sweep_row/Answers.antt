@@ -1,4 +1,4 @@
-use Rattle.std.proofs.Common.{◌≡◌, ◌+◌, ◌-◌, sym, refl, subst, arith}
+use Rattle.std.proofs.Common.{◌≡◌, ◌+◌, ◌-◌, subst, arith}
 use Rattle.rows.proofs.Steps.{Swept, swept_none, swept_more}
 use Rattle.rows.proofs.sweeps.sweep_row.Goals as goal
 

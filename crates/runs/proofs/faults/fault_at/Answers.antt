@@ -1,8 +1,8 @@
-use Rattle.std.proofs.Common.{◌≡◌, ℕ, ◌<◌, true, false, sym, ap, ◌∙◌, subst, arith}
+use Rattle.std.proofs.Common.{◌≡◌, ℕ, sym, ap, ◌∙◌, subst, arith}
 use Rattle.meaning.specs.Systems.{Initial}
-use Rattle.meaning.specs.Runs.{Run, places, state_at}
+use Rattle.meaning.specs.Runs.{state_at}
 use Rattle.rows.specs.Cells.{run_of}
-use Rattle.book.specs.Books.{book_of, placed, arcs_in, PlaceOf}
+use Rattle.book.specs.Books.{placed, arcs_in, PlaceOf}
 use Rattle.book.specs.declared.book.Book.{Book}
 use Rattle.plant.specs.Model.{Model}
 use Rattle.runs.specs.Faults.{GoesOn}

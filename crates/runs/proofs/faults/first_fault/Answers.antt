@@ -1,6 +1,4 @@
 use Rattle.std.proofs.Common.{ℕ, ◌<◌, Bool, inl, inr, ⊎_elim, arith, below_more}
-use Rattle.std.proofs.lemmas.Bool.{cases_lt}
-use Rattle.refusal.specs.Rows.{Lowest}
 use Rattle.meaning.specs.Systems.{System}
 use Rattle.meaning.specs.Runs.{Run, places}
 use Rattle.rows.specs.Cells.{run_of}

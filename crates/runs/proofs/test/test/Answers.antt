@@ -1,4 +1,4 @@
-use Rattle.std.proofs.Common.{◌≡◌, ℕ, ◌*◌, ◌≤◌, true, false, length, sym, refl, ◌∙◌, subst, inl, inr}
+use Rattle.std.proofs.Common.{◌*◌, ◌≤◌, length, sym, refl, subst, inr}
 use Rattle.formula.specs.View.{entries_of}
 use Rattle.meaning.specs.Runs.{places}
 use Rattle.runs.specs.Tests.{Beyond}

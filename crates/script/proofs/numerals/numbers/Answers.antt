@@ -1,4 +1,4 @@
-use Rattle.std.proofs.Common.{◌≡◌, sym, ap, ◌∙◌, subst, arith}
+use Rattle.std.proofs.Common.{sym, subst}
 use Rattle.script.specs.Values.{Number, NextNumber}
 use Rattle.script.proofs.Cuts.{first_once, first_not_blank, first_length}
 use Rattle.script.proofs.Lists.{Sofar, steady_number, one_more, no_more, no_way}

@@ -1,8 +1,7 @@
-use Rattle.std.proofs.Common.{◌≡◌, sym, ◌∙◌, subst, rules}
+use Rattle.std.proofs.Common.{subst, rules}
 use Rattle.std.proofs.lemmas.Result.{IfOk-from_err}
 use Rattle.std.proofs.lemmas.Option.{MatchOption-at_some, MatchOption-at_none}
 use Rattle.script.specs.Words.{Cut}
-use Rattle.script.specs.Says.{Skipped}
 use Rattle.script.proofs.Cuts.{cut_once}
 use Rattle.script.proofs.Once.{plain, given_at}
 use Rattle.script.proofs.reader.read.Goals as goal

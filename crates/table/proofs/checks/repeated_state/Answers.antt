@@ -1,6 +1,5 @@
-use Rattle.std.proofs.Common.{◌≡◌, ℕ, ◌-◌, ◌<◌, Bool, true, false, eqb, length, get_or, take, sym, ◌∙◌, arith, below_more}
+use Rattle.std.proofs.Common.{◌≡◌, ℕ, ◌-◌, eqb, get_or, take, arith, below_more}
 use Rattle.std.proofs.lemmas.List.Elements.{contains_decides}
-use Rattle.table.specs.Sections.{Again}
 use Rattle.table.proofs.Repeats.{distinct, again_decides}
 use Rattle.table.proofs.checks.repeated_state.Goals as goal
 use Rattle.std.proofs.lemmas.Bool.Decides.{Decides-eqb}

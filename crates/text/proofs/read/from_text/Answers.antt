@@ -1,4 +1,4 @@
-use Rattle.std.proofs.Common.{◌≡◌, ⊎_elim, arith, rules}
+use Rattle.std.proofs.Common.{arith, rules}
 use Rattle.grammar.specs.Texts.{Sized, by_length}
 use Rattle.text.proofs.Whole.{answered_no, answered_yes, refused, too_many, too_heavy, granted, one_whole, all_in_range, weighed}
 use Rattle.text.proofs.read.from_text.Goals as goal

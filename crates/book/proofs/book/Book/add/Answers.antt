@@ -1,9 +1,6 @@
-use Rattle.std.proofs.Common.{◌≡◌, ℕ, ◌%◌, ◌<◌, ◌≤◌, true, cond, eqb, length, get_or, set, Some, None, sym, ap, ◌∙◌, subst, arith}
+use Rattle.std.proofs.Common.{◌≡◌, ◌%◌, ◌<◌, cond, eqb, length, set, Some, ap, ◌∙◌, subst, arith}
 use Rattle.std.proofs.lemmas.List.{length-set}
-use Rattle.book.specs.Records.{Saying, saying_of, look, Holds, Adds}
-use Rattle.book.specs.Books.{book_of}
-use Rattle.book.specs.declared.book.Book.{Book}
-use Rattle.book.specs.declared.record.Record.{Record}
+use Rattle.book.specs.Records.{look}
 use Rattle.book.proofs.Rows.{put_apart, put_few, put_look, room, not_held}
 use Rattle.book.proofs.book.Book.add.Goals as goal
 

@@ -1,6 +1,6 @@
-use Rattle.std.proofs.Common.{◌≡◌, ℕ, ◌<◌, true, length, get_or, Some, None, Option, sym, ap, ◌∙◌, arith, rules, MatchOption}
-use Rattle.book.specs.Records.{Holds, names, no_record}
-use Rattle.book.specs.Books.{book_of, placed, PlaceOf}
+use Rattle.std.proofs.Common.{◌≡◌, ℕ, ◌<◌, Some, None, Option, sym, ◌∙◌, arith, rules, MatchOption}
+use Rattle.book.specs.Records.{Holds}
+use Rattle.book.specs.Books.{book_of, PlaceOf}
 use Rattle.book.specs.declared.book.Book.{Book}
 use Rattle.book.proofs.Rows.{look_none, look_some, look_at, named_open}
 use Rattle.book.proofs.book.Book.find.Goals as goal

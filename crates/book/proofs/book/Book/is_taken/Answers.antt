@@ -1,4 +1,4 @@
-use Rattle.std.proofs.Common.{◌≡◌, ℕ, true, false, get_or, sym, refl, ◌∙◌, arith, le-ltb}
+use Rattle.std.proofs.Common.{◌≡◌, ℕ, get_or, sym, ◌∙◌, arith, le-ltb}
 use Rattle.book.specs.Records.{no_record}
 use Rattle.book.proofs.Rows.{says_open, past_silent}
 use Rattle.book.proofs.book.Book.is_taken.Goals as goal

@@ -1,6 +1,6 @@
-use Rattle.std.proofs.Common.{◌≡◌, ℕ, cond, length, get_or, take, sym, ap, ◌∙◌, arith}
+use Rattle.std.proofs.Common.{ℕ, cond, length, ap, ◌∙◌, arith}
 use Rattle.std.proofs.lemmas.List.{take_all}
-use Rattle.book.specs.Records.{open_states, no_record}
+use Rattle.book.specs.Records.{open_states}
 use Rattle.book.proofs.Rows.{open_more}
 use Rattle.book.proofs.book.Book.len.Goals as goal
 use Rattle.book.proofs.book.Book.len.Goals.{then-record, else-record}

@@ -1,5 +1,5 @@
-use Rattle.std.proofs.Common.{◌≡◌, set, sym, subst, arith}
-use Rattle.book.specs.Records.{empty, look, Drops}
+use Rattle.std.proofs.Common.{set, sym, subst, arith}
+use Rattle.book.specs.Records.{look, Drops}
 use Rattle.book.proofs.Rows.{clear_look}
 use Rattle.book.proofs.book.Book.remove.Goals as goal
 

@@ -1,16 +1,13 @@
-use Rattle.std.proofs.Common.{◌≡◌, ℕ, ◌≤◌, true, List, take, Err, Result, sym, ap, ◌∙◌, subst, ⊎_elim, arith}
+use Rattle.std.proofs.Common.{◌≡◌, ℕ, List, take, Err, Result, ap, subst, ⊎_elim, arith}
 use native.Mathlib.Nat.{sub-zero}
 use Rattle.refusal.specs.Causes.{Gives}
 use Rattle.refusal.specs.declared.Layer.TheVariants.{Formula as FormulaLayer}
 use Rattle.refusal.specs.declared.Refusal.{Refusal}
-use Rattle.formula.specs.Stack.{sound, depth, tree}
-use Rattle.formula.specs.Table.{table, weight}
-use Rattle.formula.specs.Words.{Granted, Refused, by_length, by_entry, by_parts, by_number, by_weight, OneTree}
-use Rattle.formula.specs.declared.entry.Entry.{Entry}
+use Rattle.formula.specs.Stack.{tree}
+use Rattle.formula.specs.Words.{Refused, by_length, by_entry, by_parts, by_number, by_weight, OneTree}
 use Rattle.formula.specs.declared.formula.Formula.{Formula}
 use Rattle.formula.proofs.Making.{lists_in_range, one_whole, weight_is, made}
 use Rattle.formula.proofs.Settled.{Unshaped, one_tree, one_refusal, not_both}
-use Rattle.formula.proofs.Stacks.{whole}
 use Rattle.formula.proofs.formula.Formula.from_words.Goals as goal
 
 -- a refusal, and that there is no other

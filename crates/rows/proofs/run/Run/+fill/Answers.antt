@@ -1,4 +1,4 @@
-use Rattle.std.proofs.Common.{◌≡◌, ◌+◌, ◌-◌, ◌*◌, eqb, length, ap, ◌∙◌, arith, Fits-le}
+use Rattle.std.proofs.Common.{◌+◌, ◌-◌, ◌*◌, eqb, length, ap, ◌∙◌, arith, Fits-le}
 use Rattle.rows.specs.Cells.{run_of}
 use Rattle.rows.proofs.Filling.{ranged_at, leaf_stands, unary_stands, binary_stands, leaf_size, one_fits, two_some, two_fits, leaf_row, one_row, two_row}
 use Rattle.rows.proofs.run.Run.+fill.Goals as goal

@@ -1,4 +1,4 @@
-use Rattle.std.proofs.Common.{◌≡◌, ℕ, ◌+◌, ◌*◌, ◌≤◌, List, length, vec_items, sym, refl, ap, ◌∙◌, subst, arith}
+use Rattle.std.proofs.Common.{◌≡◌, ◌+◌, ◌*◌, ◌≤◌, length, vec_items, sym, ap, ◌∙◌, subst, arith}
 use Rattle.guarded.specs.Values.{Sized, Ranged, row_of}
 use Rattle.guarded.specs.Made.{sizes_of, width_of, sets_of}
 use Rattle.rule.proofs.Picks.{row_within, length_row}

@@ -1,4 +1,4 @@
-use Rattle.std.proofs.Common.{◌≡◌, ◌∷◌, sym, refl, subst}
+use Rattle.std.proofs.Common.{◌∷◌, sym, refl, subst}
 use Rattle.book.specs.Books.{book_of}
 use Rattle.session.specs.History.{turn, open_state, refused}
 use Rattle.session.specs.Law.{Kept}

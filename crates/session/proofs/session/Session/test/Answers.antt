@@ -1,4 +1,4 @@
-use Rattle.std.proofs.Common.{ℕ, List, length}
+use Rattle.std.proofs.Common.{length}
 use Rattle.std.proofs.lemmas.Result.{MatchResult-weaker}
 use Rattle.formula.specs.View.{entries_of, tree_of}
 use Rattle.runs.specs.Known.{run_of}

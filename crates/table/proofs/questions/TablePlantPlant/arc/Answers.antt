@@ -1,4 +1,4 @@
-use Rattle.std.proofs.Common.{◌≡◌, unwrap_or, ap, ◌∙◌, subst}
+use Rattle.std.proofs.Common.{unwrap_or, ap, ◌∙◌, subst}
 use Rattle.std.specs.Slice.{IsGetResult}
 use Rattle.plant.specs.Model.{past_arc}
 use Rattle.table.specs.Parts.{model_of}

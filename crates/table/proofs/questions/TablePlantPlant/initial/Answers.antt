@@ -1,4 +1,4 @@
-use Rattle.std.proofs.Common.{◌≡◌, vec_items, unwrap_or, ap, ◌∙◌, subst}
+use Rattle.std.proofs.Common.{vec_items, unwrap_or, ap, ◌∙◌, subst}
 use Rattle.std.specs.Slice.{IsGetResult}
 use Rattle.table.proofs.Lookups.{item_or}
 use Rattle.table.proofs.questions.TablePlantPlant.initial.Goals as goal

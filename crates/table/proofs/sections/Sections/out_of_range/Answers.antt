@@ -1,4 +1,4 @@
-use Rattle.std.proofs.Common.{◌≡◌, ℕ, ◌+◌, length, sym, ap, ◌∙◌, subst, arith}
+use Rattle.std.proofs.Common.{◌≡◌, ◌+◌, length, ap, subst, arith}
 use Rattle.refusal.specs.Rows.{Lowest}
 use Rattle.table.specs.Words.{state_count, event_count, at_counts, at_events, at_targets}
 use Rattle.table.specs.Refused.{OutOfRange}

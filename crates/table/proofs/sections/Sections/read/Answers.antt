@@ -1,5 +1,5 @@
-use Rattle.std.proofs.Common.{◌≡◌, ℕ, ◌<◌, ◌≤◌, length, get_or, take, sum, sym, refl, ap, ◌∙◌, subst, arith}
-use Rattle.table.specs.Words.{state_count, event_count, counts, events, largest, paired}
+use Rattle.std.proofs.Common.{length, take, sum, sym, refl, ap, ◌∙◌, subst, arith}
+use Rattle.table.specs.Words.{event_count, largest, paired}
 use Rattle.table.proofs.Ranges.{Low, long_counts, long_events, long_targets, at_most, low_counts, low_events}
 use Rattle.table.proofs.Laws.{narrow}
 use Rattle.table.proofs.sections.Sections.read.Goals as goal

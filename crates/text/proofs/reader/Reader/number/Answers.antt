@@ -1,4 +1,4 @@
-use Rattle.std.proofs.Common.{◌≡◌, refl, inl, inr, ⊎_elim, arith}
+use Rattle.std.proofs.Common.{refl, inl, inr, ⊎_elim, arith}
 use Rattle.std.proofs.lemmas.List.{drop_more, drop_all}
 use Rattle.text.proofs.Steps.{clear_end, clear_other, num_zero, num_one, num_two, num_big}
 use Rattle.text.proofs.reader.Reader.number.Goals as goal
