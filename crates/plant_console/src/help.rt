@@ -1,4 +1,4 @@
-// What each call takes and what it answers. Relies on script's words.
+// What each call takes and what it answers. Relies on plant_script's words.
 use plant_script::calls::{AloneWord, ListWord, OneWord, Word};
 use std::alloc::{AllocError, Global};
 

@@ -1,5 +1,5 @@
-// The console: reads a script of calls from standard input, and prints an answer for each.
-// Relies on script, printing, and whatever the calls make: formula, text, table, rule, kinds.
+// The console with the calls on plants, which `console` is to become: reads a script of calls from standard input, and
+// prints an answer for each. Relies on plant_script, printing, and whatever the calls make: formula, text, table, rule, kinds.
 #![tactic(auto)]
 
 mod asking;

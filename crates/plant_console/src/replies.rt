@@ -1,4 +1,4 @@
-// How a line is answered. Relies on making, asking and script.
+// How a line is answered. Relies on making, asking and plant_script.
 ghost use Rattle.std.specs.Prelude.{◌≡◌, IfOk, None as Nothing, string_bytes};
 ghost use Rattle.plant_script.specs.Says.{meaning, list as list_said, alone as alone_call};
 ghost use Rattle.plant_console.specs.Replies.{state_of, Answers, Replies};

@@ -1,4 +1,4 @@
-// A script's lines: which call a line says. Relies on nothing.
+// A script's lines, with the calls on plants: what `script` is to become. Relies on nothing.
 #![tactic(auto)]
 
 pub mod calls;

@@ -1,14 +1,14 @@
 -- How bytes are cut: a script into lines, and a line into words. Assumes nothing.
 use Rattle.std.specs.Prelude.{◌≡◌, ℕ, ◌<◌, List, [], ◌∷◌, ◌++◌, length, ◌≢◌}
-use Rattle.std.specs.List.{AllByRecursion as All}
+use Rattle.std.specs.List.{AllByRecursion}
 
 -- nothing but spaces
 abbrev pub Blank : List ℕ → Type 0
-Blank bs = All (λ b. b ≡ 32) bs
+Blank bs = AllByRecursion (λ b. b ≡ 32) bs
 
 -- no byte `by`
 abbrev pub Without : ℕ → List ℕ → Type 0
-Without by bs = All (λ b. b ≢ by) bs
+Without by bs = AllByRecursion (λ b. b ≢ by) bs
 
 -- empty, or something else than a space first
 abbrev pub Dark : List ℕ → Type 0
