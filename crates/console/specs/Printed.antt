@@ -2,7 +2,7 @@
 use Rattle.std.specs.Prelude.{ℕ, List, ◌∷◌, ◌++◌, map, length, codes, decimal}
 use Rattle.std.specs.List.{flat_map}
 use Rattle.refusal.specs.declared.Layer.{Layer}
-use Rattle.refusal.specs.declared.Layer.TheVariants.{Formula, Text, Plant, Session}
+use Rattle.refusal.specs.declared.Layer.TheVariants.{Formula, Text}
 use Rattle.refusal.specs.declared.Refusal.{Refusal}
 use Rattle.refusal.specs.Causes.{number_of, layer_of}
 use Rattle.formula.specs.declared.entry.Entry.{Entry}
@@ -15,8 +15,6 @@ use Rattle.console.specs.declared.answers.Column.TheVariants.{Kind, Argument}
 abbrev pub name_of_layer : Layer → List ℕ
 name_of_layer Formula = codes "formula"
 name_of_layer Text = codes "text"
-name_of_layer Plant = codes "plant"
-name_of_layer Session = codes "session"
 
 -- a refusal's number, layer and place
 abbrev pub refused_line : Refusal → List ℕ

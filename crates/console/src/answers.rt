@@ -15,8 +15,6 @@ fn layer_name(layer: Layer) -> &'static str
     match layer {
         Layer::Formula => "formula",
         Layer::Text => "text",
-        Layer::Plant => "plant",
-        Layer::Session => "session",
     }
 }
 

@@ -1,8 +1,7 @@
 -- What the console replies to a line, and what it keeps. Relies on printing's lines, script's lines, and what formulas and plants are granted or refused by.
 use Rattle.std.specs.Prelude.{◌≡◌, ℕ, List, [], ◌∷◌, ◌++◌, length, Some, None, codes, decimal, Option}
 use Rattle.std.specs.Option.{option_map}
-use Rattle.refusal.specs.declared.Refusal.{Refusal}
-use Rattle.refusal.specs.Rows.{First}
+use Rattle.plant_refusal.specs.Rows.{First}
 use Rattle.formula.specs.declared.entry.Entry.{Entry}
 use Rattle.formula.specs.View.{entries_of}
 use Rattle.formula.specs.Words.{Granted as WordsGranted, Refused as WordsRefused}
@@ -15,7 +14,7 @@ use Rattle.table.specs.Refused.{rows as table_rows}
 use Rattle.rule.specs.Words.{rows as rule_rows}
 use Rattle.rule.specs.Read.{Granted as RuleGranted}
 use Rattle.kinds.specs.Kinds.{any_model}
-use Rattle.printing.specs.Printed.{refused_line, accepted_line, table_line, asked_line, arc_line}
+use Rattle.printing.specs.Printed.{refused_line, plant_refused_line, accepted_line, table_line, asked_line, arc_line}
 use Rattle.plant_script.specs.Says.{Meaning, list, text, alone, one, arc, Says, Skipped}
 use Rattle.plant_script.specs.declared.calls.ListWord.TheVariants.{Formula, Table, Rule}
 use Rattle.plant_script.specs.declared.calls.AloneWord.TheVariants.{Ask, Help}
@@ -38,13 +37,13 @@ abbrev pub with_plant : State → Model → State
 with_plant s m = record { formula = s.formula; plant = Some m }
 
 -- something is made and kept, or refused, and then all is as before
-pub data Makes {X : Type 0} (Granted : X → Type 0) (Refused : Refusal → Type 0) (line : X → List ℕ) (put : State → X → State) (before : State) (answer : List ℕ) (after : State) : Type 0 where
-  makes : (x : X) → Granted x → answer ≡ line x → after ≡ put before x → Makes Granted Refused line put before answer after
-  refuses : (r : Refusal) → Refused r → answer ≡ refused_line r → after ≡ before → Makes Granted Refused line put before answer after
+pub data Makes {X R : Type 0} (Granted : X → Type 0) (Refused : R → Type 0) (line : X → List ℕ) (refusal_line : R → List ℕ) (put : State → X → State) (before : State) (answer : List ℕ) (after : State) : Type 0 where
+  makes : (x : X) → Granted x → answer ≡ line x → after ≡ put before x → Makes Granted Refused line refusal_line put before answer after
+  refuses : (r : R) → Refused r → answer ≡ refusal_line r → after ≡ before → Makes Granted Refused line refusal_line put before answer after
 
 -- what is printed where no plant was made
 abbrev pub FailedLine : Failure → List ℕ → Type 0
-FailedLine (FailedBy r) answer = answer ≡ refused_line r
+FailedLine (FailedBy r) answer = answer ≡ plant_refused_line r
 FailedLine OutOfMemory answer = ⊥
 
 -- a question about the last plant, where there is one
@@ -54,10 +53,10 @@ Tells line (Some m) answer = answer ≡ line m
 
 -- what a call is answered
 abbrev pub Answers : Meaning → State → List ℕ → State → Type 0
-Answers (list Formula ws) before answer after = Makes (WordsGranted ws) (WordsRefused ws) accepted_line with_formula before answer after
-Answers (list Table ws) before answer after = Makes (TableGranted ws) (First (table_rows ws)) (λ _. codes "ok") with_plant before answer after
-Answers (list Rule ws) before answer after = Makes (RuleGranted ws) (First (rule_rows ws)) (λ _. codes "ok") with_plant before answer after
-Answers (text bs) before answer after = Makes (TextGranted bs) (TextRefused bs) table_line with_formula before answer after
+Answers (list Formula ws) before answer after = Makes (WordsGranted ws) (WordsRefused ws) accepted_line refused_line with_formula before answer after
+Answers (list Table ws) before answer after = Makes (TableGranted ws) (First (table_rows ws)) (λ _. codes "ok") plant_refused_line with_plant before answer after
+Answers (list Rule ws) before answer after = Makes (RuleGranted ws) (First (rule_rows ws)) (λ _. codes "ok") plant_refused_line with_plant before answer after
+Answers (text bs) before answer after = Makes (TextGranted bs) (TextRefused bs) table_line refused_line with_formula before answer after
 Answers (alone Ask) before answer after = Tells asked_line before.plant answer × (after ≡ before)
 Answers (alone Help) before answer after = after ≡ before
 Answers (one Initial i) before answer after = Tells (λ m. decimal (initial_at m i)) before.plant answer × (after ≡ before)

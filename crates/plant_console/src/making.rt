@@ -1,13 +1,13 @@
 // Calls that make a formula or a plant: what is refused keeps the previous. Relies on state and printing.
 ghost use Rattle.std.specs.Prelude.{◌≡◌, IfOk, string_bytes, codes};
-ghost use Rattle.refusal.specs.Rows.{First};
+ghost use Rattle.plant_refusal.specs.Rows.{First};
 ghost use Rattle.formula.specs.Words.{Granted as WordsGranted, Refused as WordsRefused};
 ghost use Rattle.grammar.specs.Texts.{Granted as TextGranted, Refused as TextRefused};
 ghost use Rattle.table.specs.Granted.{Granted as TableGranted};
 ghost use Rattle.table.specs.Refused.{rows as table_rows};
 ghost use Rattle.rule.specs.Read.{Granted as RuleGranted};
 ghost use Rattle.rule.specs.Words.{rows as rule_rows};
-ghost use Rattle.printing.specs.Printed.{accepted_line, table_line};
+ghost use Rattle.printing.specs.Printed.{refused_line, plant_refused_line, accepted_line, table_line};
 ghost use Rattle.plant_console.specs.Replies.{state_of, with_formula, with_plant, Makes, FailedLine};
 
 use crate::state::Console;
@@ -15,7 +15,7 @@ use formula::formula::Formula;
 use kinds::AnyPlant;
 use plant::Failure;
 use printing::formulas::{accepted, table};
-use printing::lines::refused;
+use printing::lines::{plant_refused, refused};
 use rule::rule::RulePlant;
 use std::alloc::{AllocError, Global};
 use table::table::TablePlant;
@@ -33,14 +33,14 @@ fn failed(heap: Global, failure: Failure) -> Result<String, AllocError>
     ensures { IfOk result (λ s. FailedLine failure (string_bytes s)) }
 {
     match failure {
-        Failure::Refused(refusal) => refused(heap, refusal),
+        Failure::Refused(refusal) => plant_refused(heap, refusal),
         Failure::OutOfMemory => Err(AllocError),
     }
 }
 
 impl Console {
     pub(crate) fn formula_call(&mut self, heap: Global, words: &[u32]) -> Result<String, AllocError>
-        ensures { IfOk result (λ s. Makes (WordsGranted words.now) (WordsRefused words.now) accepted_line with_formula (state_of self.old) (string_bytes s) (state_of self.new)) }
+        ensures { IfOk result (λ s. Makes (WordsGranted words.now) (WordsRefused words.now) accepted_line refused_line with_formula (state_of self.old) (string_bytes s) (state_of self.new)) }
     {
         match Formula::from_words(words) {
             Ok(formula) => {
@@ -53,7 +53,7 @@ impl Console {
     }
 
     pub(crate) fn text_call(&mut self, heap: Global, text: &[u8]) -> Result<String, AllocError>
-        ensures { IfOk result (λ s. Makes (TextGranted text.now) (TextRefused text.now) table_line with_formula (state_of self.old) (string_bytes s) (state_of self.new)) }
+        ensures { IfOk result (λ s. Makes (TextGranted text.now) (TextRefused text.now) table_line refused_line with_formula (state_of self.old) (string_bytes s) (state_of self.new)) }
     {
         match from_text(text) {
             Ok(formula) => {
@@ -66,7 +66,7 @@ impl Console {
     }
 
     pub(crate) fn table_call(&mut self, heap: Global, words: &[u32]) -> Result<String, AllocError>
-        ensures { IfOk result (λ s. Makes (TableGranted words.now) (First (table_rows words.now)) (λ _. codes "ok") with_plant (state_of self.old) (string_bytes s) (state_of self.new)) }
+        ensures { IfOk result (λ s. Makes (TableGranted words.now) (First (table_rows words.now)) (λ _. codes "ok") plant_refused_line with_plant (state_of self.old) (string_bytes s) (state_of self.new)) }
     {
         match TablePlant::from_words(heap, words) {
             Ok(plant) => {
@@ -78,7 +78,7 @@ impl Console {
     }
 
     pub(crate) fn rule_call(&mut self, heap: Global, words: &[u32]) -> Result<String, AllocError>
-        ensures { IfOk result (λ s. Makes (RuleGranted words.now) (First (rule_rows words.now)) (λ _. codes "ok") with_plant (state_of self.old) (string_bytes s) (state_of self.new)) }
+        ensures { IfOk result (λ s. Makes (RuleGranted words.now) (First (rule_rows words.now)) (λ _. codes "ok") plant_refused_line with_plant (state_of self.old) (string_bytes s) (state_of self.new)) }
     {
         match RulePlant::from_words(heap, words) {
             Ok(plant) => {

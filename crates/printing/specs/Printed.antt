@@ -1,10 +1,14 @@
--- What is printed. Relies on refusal's causes, formula's tables and plant's models.
+-- What is printed. Relies on refusal's and plant_refusal's causes, formula's tables and plant's models.
 use Rattle.std.specs.Prelude.{ℕ, List, ◌∷◌, ◌++◌, map, length, codes, decimal}
 use Rattle.std.specs.List.{flat_map}
 use Rattle.refusal.specs.declared.Layer.{Layer}
-use Rattle.refusal.specs.declared.Layer.TheVariants.{Formula, Text, Plant, Session}
+use Rattle.refusal.specs.declared.Layer.TheVariants.{Formula, Text}
 use Rattle.refusal.specs.declared.Refusal.{Refusal}
 use Rattle.refusal.specs.Causes.{number_of, layer_of}
+use Rattle.plant_refusal.specs.declared.Layer.{Layer as PlantLayer}
+use Rattle.plant_refusal.specs.declared.Layer.TheVariants.{Plant, Session}
+use Rattle.plant_refusal.specs.declared.Refusal.{Refusal as PlantRefusal}
+use Rattle.plant_refusal.specs.Causes.{number_of as plant_number_of, layer_of as plant_layer_of}
 use Rattle.formula.specs.declared.entry.Entry.{Entry}
 use Rattle.formula.specs.Table.{weight}
 use Rattle.formula.specs.Words.{kind_of, argument_of}
@@ -17,12 +21,22 @@ use Rattle.printing.specs.declared.formulas.Column.TheVariants.{Kind, Argument}
 abbrev pub name_of_layer : Layer → List ℕ
 name_of_layer Formula = codes "formula"
 name_of_layer Text = codes "text"
-name_of_layer Plant = codes "plant"
-name_of_layer Session = codes "session"
+
+abbrev pub name_of_plant_layer : PlantLayer → List ℕ
+name_of_plant_layer Plant = codes "plant"
+name_of_plant_layer Session = codes "session"
+
+-- a number, the name of a layer, and a place
+abbrev pub told_line : ℕ → List ℕ → ℕ → List ℕ
+told_line number layer place = codes "refused " ++ (decimal number ++ (codes " " ++ (layer ++ (codes " " ++ decimal place))))
 
 -- a refusal's number, layer and place
 abbrev pub refused_line : Refusal → List ℕ
-refused_line r = codes "refused " ++ (decimal (number_of r.cause) ++ (codes " " ++ (name_of_layer (layer_of r.cause) ++ (codes " " ++ decimal r.place))))
+refused_line r = told_line (number_of r.cause) (name_of_layer (layer_of r.cause)) r.place
+
+-- the same of a refusal of a plant or a session
+abbrev pub plant_refused_line : PlantRefusal → List ℕ
+plant_refused_line r = told_line (plant_number_of r.cause) (name_of_plant_layer (plant_layer_of r.cause)) r.place
 
 -- numbers in base ten, a space before each
 abbrev pub spaced_out : List ℕ → List ℕ

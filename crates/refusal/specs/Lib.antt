@@ -1,2 +1,1 @@
 pub mod Causes
-pub mod Rows

@@ -11,8 +11,6 @@ ghost use Rattle.refusal.specs.Causes.{number_of, layer_of, Gives};
 pub enum Layer {
     Formula,
     Text,
-    Plant,
-    Session,
 }
 
 // The rule that a call breaks.
@@ -29,25 +27,6 @@ pub enum Cause {
     TextEnd,
     TextNumber,
     TextTable,
-    // a table plant's words
-    PlantLength,
-    PlantLimit,
-    PlantRange,
-    PlantRepeat,
-    // a rule plant's words
-    RuleSize,
-    RuleValue,
-    // a session's calls
-    StateOpen,
-    BookFull,
-    StateClosed,
-    EventBeyond,
-    WorkspaceShort,
-    WalkUnderWay,
-    NoWalk,
-    NoSuchIndex,
-    RunShape,
-    NotARun,
 }
 
 // A cause, and the place that the rule names: 0 where it names none.
@@ -72,22 +51,6 @@ impl Cause {
             Cause::TextEnd => 23,
             Cause::TextNumber => 24,
             Cause::TextTable => 25,
-            Cause::PlantLength => 31,
-            Cause::PlantLimit => 32,
-            Cause::PlantRange => 33,
-            Cause::PlantRepeat => 34,
-            Cause::RuleSize => 35,
-            Cause::RuleValue => 36,
-            Cause::StateOpen => 41,
-            Cause::BookFull => 42,
-            Cause::StateClosed => 43,
-            Cause::EventBeyond => 44,
-            Cause::WorkspaceShort => 45,
-            Cause::WalkUnderWay => 47,
-            Cause::NoWalk => 48,
-            Cause::NoSuchIndex => 49,
-            Cause::RunShape => 50,
-            Cause::NotARun => 51,
         }
     }
 
@@ -102,22 +65,6 @@ impl Cause {
             | Cause::TextEnd
             | Cause::TextNumber
             | Cause::TextTable => Layer::Text,
-            Cause::PlantLength
-            | Cause::PlantLimit
-            | Cause::PlantRange
-            | Cause::PlantRepeat
-            | Cause::RuleSize
-            | Cause::RuleValue => Layer::Plant,
-            Cause::StateOpen
-            | Cause::BookFull
-            | Cause::StateClosed
-            | Cause::EventBeyond
-            | Cause::WorkspaceShort
-            | Cause::WalkUnderWay
-            | Cause::NoWalk
-            | Cause::NoSuchIndex
-            | Cause::RunShape
-            | Cause::NotARun => Layer::Session,
         }
     }
 
