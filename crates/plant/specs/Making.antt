@@ -1,6 +1,6 @@
--- What making a plant comes to. Relies on plant_refusal's tables of refusals.
+-- What making a plant comes to. Relies on refusal's tables of refusals.
 use Rattle.std.specs.Prelude.{List}
-use Rattle.plant_refusal.specs.Rows.{Row, Clear, First}
+use Rattle.refusal.specs.Rows.{Row, Clear, First}
 use Rattle.plant.specs.declared.Failure.{Failure}
 use Rattle.plant.specs.declared.Failure.TheVariants.{Refused, OutOfMemory}
 

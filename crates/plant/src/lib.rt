@@ -1,4 +1,4 @@
-// Plants: finite labelled transition systems, asked state by state. Relies on plant_refusal and meaning.
+// Plants: finite labelled transition systems, asked state by state. Relies on refusal and meaning.
 #![tactic(auto)]
 
 ghost use Rattle.std.specs.Prelude.{◌≡◌, length};
@@ -6,7 +6,7 @@ ghost use Rattle.plant.specs.Model.{Model, Lawful, initial_at, arc_at};
 ghost use Rattle.plant.specs.declared.Failure.TheVariants.{Refused as ByRule, OutOfMemory};
 
 use meaning::Arc;
-use plant_refusal::Refusal;
+use refusal::Refusal;
 use std::alloc::AllocError;
 
 // A plant: what it stands for is its model, and whoever implements the trait proves that the model is lawful.

@@ -1,6 +1,6 @@
 -- A plant that was not made leaves all as before. Assumes nothing.
 use Rattle.std.proofs.Common.{ℕ, List, refl}
-use Rattle.plant_refusal.specs.Rows.{Row, First}
+use Rattle.refusal.specs.Rows.{Row, First}
 use Rattle.plant.specs.Making.{Failed}
 use Rattle.plant.specs.Model.{Model}
 use Rattle.plant.specs.declared.Failure.{Failure}

@@ -1,7 +1,7 @@
 -- What the console replies to a line, and what it keeps. Relies on printing's lines, script's lines, and what formulas and plants are granted or refused by.
 use Rattle.std.specs.Prelude.{◌≡◌, ℕ, List, [], ◌∷◌, ◌++◌, length, Some, None, codes, decimal, Option}
 use Rattle.std.specs.Option.{option_map}
-use Rattle.plant_refusal.specs.Rows.{First}
+use Rattle.refusal.specs.Rows.{First}
 use Rattle.formula.specs.declared.entry.Entry.{Entry}
 use Rattle.formula.specs.View.{entries_of}
 use Rattle.formula.specs.Words.{Granted as WordsGranted, Refused as WordsRefused}

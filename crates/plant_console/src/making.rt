@@ -1,6 +1,6 @@
 // Calls that make a formula or a plant: what is refused keeps the previous. Relies on state and printing.
 ghost use Rattle.std.specs.Prelude.{◌≡◌, IfOk, string_bytes, codes};
-ghost use Rattle.plant_refusal.specs.Rows.{First};
+ghost use Rattle.refusal.specs.Rows.{First};
 ghost use Rattle.formula.specs.Words.{Granted as WordsGranted, Refused as WordsRefused};
 ghost use Rattle.grammar.specs.Texts.{Granted as TextGranted, Refused as TextRefused};
 ghost use Rattle.table.specs.Granted.{Granted as TableGranted};

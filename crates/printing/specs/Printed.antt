@@ -5,10 +5,10 @@ use Rattle.refusal.specs.declared.Layer.{Layer}
 use Rattle.refusal.specs.declared.Layer.TheVariants.{Formula, Text}
 use Rattle.refusal.specs.declared.Refusal.{Refusal}
 use Rattle.refusal.specs.Causes.{number_of, layer_of}
-use Rattle.plant_refusal.specs.declared.Layer.{Layer as PlantLayer}
-use Rattle.plant_refusal.specs.declared.Layer.TheVariants.{Plant, Session}
-use Rattle.plant_refusal.specs.declared.Refusal.{Refusal as PlantRefusal}
-use Rattle.plant_refusal.specs.Causes.{number_of as plant_number_of, layer_of as plant_layer_of}
+use Rattle.refusal.specs.declared.Layer.{Layer as PlantLayer}
+use Rattle.refusal.specs.declared.Layer.TheVariants.{Plant, Session}
+use Rattle.refusal.specs.declared.Refusal.{Refusal as PlantRefusal}
+use Rattle.refusal.specs.Causes.{number_of as plant_number_of, layer_of as plant_layer_of}
 use Rattle.formula.specs.declared.entry.Entry.{Entry}
 use Rattle.formula.specs.Table.{weight}
 use Rattle.formula.specs.Words.{kind_of, argument_of}

@@ -1,8 +1,8 @@
-// Lines: what is thrown back, and the end of an answer; and the line of a refusal. Relies on refusal and plant_refusal.
+// Lines: what is thrown back, and the end of an answer; and the line of a refusal. Relies on refusal.
 ghost use Rattle.std.specs.Prelude.{◌≡◌, [], ◌∷◌, ◌++◌, IfOk, string_bytes, codes};
 ghost use Rattle.printing.specs.Printed.{name_of_layer, name_of_plant_layer, told_line, refused_line, plant_refused_line};
 
-use plant_refusal::{Layer as PlantLayer, Refusal as PlantRefusal};
+use refusal::{Layer as PlantLayer, Refusal as PlantRefusal};
 use refusal::{Layer, Refusal};
 use std::alloc::{AllocError, Global};
 

@@ -1,1 +1,3 @@
 pub mod Causes
+pub mod Printed
+pub mod Rows

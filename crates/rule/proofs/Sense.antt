@@ -3,11 +3,11 @@ use Rattle.std.proofs.Common.{◌≡◌, ℕ, ◌+◌, ◌*◌, ◌/◌, ◌%◌
 use Rattle.std.specs.List.{range_with_len, flat_map}
 use Rattle.std.proofs.lemmas.List.{length-take-le, length-drop, length-map, get_or-map, get_or-take, get_or-drop}
 use Rattle.std.proofs.lemmas.Bool.{cases_lt, cases_Bool, cond-true, cond-false, eqb-false, lt-ltb}
-use Rattle.plant_refusal.specs.Causes.{Gives}
-use Rattle.plant_refusal.specs.Rows.{Clear, First, Lowest}
-use Rattle.plant_refusal.specs.declared.Layer.TheVariants.{Plant}
-use Rattle.plant_refusal.specs.declared.Refusal.{Refusal}
-use Rattle.plant_refusal.proofs.Settled.{one_refusal, not_both, one_lowest, one_fails}
+use Rattle.refusal.specs.Causes.{Gives}
+use Rattle.refusal.specs.Rows.{Clear, First, Lowest}
+use Rattle.refusal.specs.declared.Layer.TheVariants.{Plant}
+use Rattle.refusal.specs.declared.Refusal.{Refusal}
+use Rattle.refusal.proofs.Settled.{one_refusal, not_both, one_lowest, one_fails}
 use Rattle.guarded.specs.declared.Parts.{Parts}
 use Rattle.guarded.specs.Values.{extent_of, values_of, number_of, facts_of, meets, after, row_of, Sized}
 use Rattle.guarded.specs.Made.{sizes_of, width_of, needs_of, sets_of, target_of, arc_by, arcs_by, model_of, Few, Filled, InRange}

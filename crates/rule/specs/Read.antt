@@ -1,6 +1,6 @@
 -- What is read of a rule plant's words, and when they are granted. Relies on Words, Meaning and guarded's parts.
 use Rattle.std.specs.Prelude.{◌≡◌, ℕ, ◌+◌, ◌*◌, cond, List, map, take, drop, Some, None, vec_items, Option, ◌==◌}
-use Rattle.plant_refusal.specs.Rows.{Clear}
+use Rattle.refusal.specs.Rows.{Clear}
 use Rattle.plant.specs.Model.{Model, Lawful}
 use Rattle.guarded.specs.declared.Parts.{Parts}
 use Rattle.guarded.specs.Made.{sizes_of}

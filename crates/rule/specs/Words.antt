@@ -1,7 +1,7 @@
 -- Rule plants as words: V and R, then V sizes, then R rows of V needs, then R rows of V sets. Assumes nothing.
 use Rattle.std.specs.Prelude.{◌≡◌, ℕ, ◌+◌, ◌*◌, ◌<◌, ◌≤◌, List, [], ◌∷◌, length, take, drop, slice_index, slice_index_or}
-use Rattle.plant_refusal.specs.Rows.{Row, Lowest, Fails}
-use Rattle.plant_refusal.specs.declared.Layer.TheVariants.{Plant}
+use Rattle.refusal.specs.Rows.{Row, Lowest, Fails}
+use Rattle.refusal.specs.declared.Layer.TheVariants.{Plant}
 
 -- how many variables
 abbrev pub variables : List ℕ → ℕ

@@ -1,4 +1,4 @@
-// Rule plants: states are values of a few variables, and rules change them. Relies on plant_refusal, plant and guarded.
+// Rule plants: states are values of a few variables, and rules change them. Relies on refusal, plant and guarded.
 #![tactic(auto)]
 
 mod part;

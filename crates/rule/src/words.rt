@@ -1,8 +1,8 @@
 // Rule plants from words, or the refusal of the first row that applies. All is checked before memory is asked for.
 // Relies on rule and part.
 ghost use Rattle.std.specs.Prelude.{◌≡◌, ℕ, ◌<◌, ◌≤◌, map, length, IfOk, Err, Decides, MatchOption, MatchResult, slice_index};
-ghost use Rattle.plant_refusal.specs.Rows.{First, Lowest};
-ghost use Rattle.plant_refusal.specs.declared.Refusal.{Refusal as Given};
+ghost use Rattle.refusal.specs.Rows.{First, Lowest};
+ghost use Rattle.refusal.specs.declared.Refusal.{Refusal as Given};
 ghost use Rattle.plant.specs.Making.{Failed};
 ghost use Rattle.plant.specs.declared.Failure.TheVariants.{Refused};
 ghost use Rattle.guarded.specs.Made.{model_of};
@@ -14,7 +14,7 @@ use crate::part::part;
 use crate::rule::RulePlant;
 use guarded::Parts;
 use plant::Failure;
-use plant_refusal::Cause;
+use refusal::Cause;
 use std::alloc::{AllocError, Global};
 
 // The word for any value in a need, and for no change in a set.

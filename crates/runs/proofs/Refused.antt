@@ -1,8 +1,8 @@
--- A fault is refused by its row. Relies on plant_refusal's theorems.
+-- A fault is refused by its row. Relies on refusal's theorems.
 use Rattle.std.proofs.Common.{ℕ, Bool, [], ◌∷◌, subst, inl, inr}
-use Rattle.plant_refusal.specs.declared.Refusal.{Refusal}
-use Rattle.plant_refusal.specs.Rows.{First, Lowest, Fails}
-use Rattle.plant_refusal.proofs.Settled.{one_lowest}
+use Rattle.refusal.specs.declared.Refusal.{Refusal}
+use Rattle.refusal.specs.Rows.{First, Lowest, Fails}
+use Rattle.refusal.proofs.Settled.{one_lowest}
 use Rattle.meaning.specs.Systems.{System}
 use Rattle.meaning.specs.Runs.{Run}
 use Rattle.runs.specs.Tests.{Closed, Bad, row}

@@ -1,8 +1,8 @@
 -- What the checks of a run answer. Relies on Tests.
 use Rattle.std.specs.Prelude.{◌≡◌, ℕ, ◌<◌, Bool, ◌⊎◌, List, length, slice_index_or}
-use Rattle.plant_refusal.specs.declared.Layer.TheVariants.{Session}
-use Rattle.plant_refusal.specs.declared.Refusal.{Refusal}
-use Rattle.plant_refusal.specs.Causes.{Gives}
+use Rattle.refusal.specs.declared.Layer.TheVariants.{Session}
+use Rattle.refusal.specs.declared.Refusal.{Refusal}
+use Rattle.refusal.specs.Causes.{Gives}
 use Rattle.meaning.specs.declared.Arc.{Arc}
 use Rattle.meaning.specs.Systems.{System, no_arc}
 use Rattle.meaning.specs.Runs.{Run, places, state_at, event_at, after}

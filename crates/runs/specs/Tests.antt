@@ -1,7 +1,7 @@
--- What the test of a run is refused for, over a system of which some states are open. Relies on meaning's runs and plant_refusal's tables.
+-- What the test of a run is refused for, over a system of which some states are open. Relies on meaning's runs and refusal's tables.
 use Rattle.std.specs.Prelude.{◌≡◌, ℕ, ◌+◌, ◌*◌, ◌<◌, ◌≤◌, Bool, false, ◌⊎◌, List, [], ◌∷◌, length, Some, None, Option, MatchOption, slice_index_or}
-use Rattle.plant_refusal.specs.declared.Layer.TheVariants.{Session}
-use Rattle.plant_refusal.specs.Rows.{Row, Lowest, Fails}
+use Rattle.refusal.specs.declared.Layer.TheVariants.{Session}
+use Rattle.refusal.specs.Rows.{Row, Lowest, Fails}
 use Rattle.formula.specs.declared.entry.Entry.{Entry}
 use Rattle.formula.specs.declared.entry.Entry.TheVariants.{True, Fact, Enabled, Taken, Not, Or, Next, Until}
 use Rattle.meaning.specs.Systems.{System, HasArc, Initial}

@@ -1,6 +1,6 @@
 // Where lent arrays are no run over open states. Relies on book and plant.
 ghost use Rattle.std.specs.Prelude.{◌≡◌, ℕ, ◌<◌, ◌≤◌, Decides, MatchOption};
-ghost use Rattle.plant_refusal.specs.Rows.{Lowest};
+ghost use Rattle.refusal.specs.Rows.{Lowest};
 ghost use Rattle.meaning.specs.Systems.{Initial};
 ghost use Rattle.meaning.specs.Runs.{places};
 ghost use Rattle.rows.specs.Cells.{run_of as lent_run};

@@ -1,4 +1,4 @@
-// The test of a run over the open states of a book: refusals first, then the answer. Relies on plant_refusal, formula, meaning, rows, plant and book.
+// The test of a run over the open states of a book: refusals first, then the answer. Relies on refusal, formula, meaning, rows, plant and book.
 #![tactic(auto)]
 
 pub mod arrays;

@@ -1,7 +1,7 @@
 // The test of a formula on a run over open states. Relies on faults and rows.
 ghost use Rattle.std.specs.Prelude.{◌≡◌, ℕ, ◌<◌, length, Decides, MatchResult, slice_index};
-ghost use Rattle.plant_refusal.specs.Causes.{Gives};
-ghost use Rattle.plant_refusal.specs.Rows.{Clear, First};
+ghost use Rattle.refusal.specs.Causes.{Gives};
+ghost use Rattle.refusal.specs.Rows.{Clear, First};
 ghost use Rattle.formula.specs.View.{entries_of, tree_of};
 ghost use Rattle.meaning.specs.Runs.{Satisfies};
 ghost use Rattle.runs.specs.Tests.{rows};
@@ -14,7 +14,7 @@ use crate::states::OpenStates;
 use book::book::Book;
 use formula::formula::Formula;
 use plant::Plant;
-use plant_refusal::{Cause, Refusal};
+use refusal::{Cause, Refusal};
 use rows::run::Run;
 
 impl Located {

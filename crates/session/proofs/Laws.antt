@@ -1,9 +1,9 @@
 -- How a granted call carries a history on. Relies on Counting.
 use Rattle.std.proofs.Common.{◌≡◌, ℕ, ◌<◌, ◌≤◌, true, false, eqb, List, ◌∷◌, length, get_or, is_some, IfSome, Some, None, Option, sym, refl, ap, ◌∙◌, subst, inl, inr, ⊎_elim, arith, eqb-true, MatchOption}
 use Rattle.std.proofs.lemmas.Bool.{cases_Bool}
-use Rattle.plant_refusal.specs.declared.Refusal.{Refusal}
-use Rattle.plant_refusal.specs.declared.Layer.TheVariants.{Session}
-use Rattle.plant_refusal.specs.Causes.{Gives}
+use Rattle.refusal.specs.declared.Refusal.{Refusal}
+use Rattle.refusal.specs.declared.Layer.TheVariants.{Session}
+use Rattle.refusal.specs.Causes.{Gives}
 use Rattle.plant.specs.Model.{Model, arc_at}
 use Rattle.book.specs.Records.{Saying, says, look, open_states, Adds, Apart}
 use Rattle.book.specs.Books.{book_of, placed, arcs_in, WhyNot, PlaceOf}

@@ -1,9 +1,9 @@
--- What the test of a run says over the book, it says over the plant. Relies on meaning's and plant_refusal's theorems.
+-- What the test of a run says over the book, it says over the plant. Relies on meaning's and refusal's theorems.
 use Rattle.std.proofs.Common.{◌≡◌, ℕ, ◌+◌, ◌-◌, ◌<◌, ◌≤◌, Bool, true, false, List, length, get_or, is_some, IfSome, Some, None, Decides, Option, sym, refl, ap, ◌∙◌, subst, inl, inr, ⊎_elim, arith}
 use Rattle.std.proofs.lemmas.Bool.{cases_Bool, cases_lt}
-use Rattle.plant_refusal.specs.declared.Refusal.{Refusal}
-use Rattle.plant_refusal.specs.Rows.{Clear, First, Lowest}
-use Rattle.plant_refusal.proofs.Settled.{AllAlike, first_alike, clear_alike, lowest_alike, no_lowest}
+use Rattle.refusal.specs.declared.Refusal.{Refusal}
+use Rattle.refusal.specs.Rows.{Clear, First, Lowest}
+use Rattle.refusal.proofs.Settled.{AllAlike, first_alike, clear_alike, lowest_alike, no_lowest}
 use Rattle.formula.specs.Ltl.{Ltl}
 use Rattle.formula.specs.declared.entry.Entry.{Entry}
 use Rattle.meaning.specs.declared.Arc.{Arc}

@@ -1,6 +1,6 @@
 -- Histories: what was asked of a session and what it answered, from its beginning on. Relies on nothing but refusals.
 use Rattle.std.specs.Prelude.{◌≡◌, ℕ, ◌<◌, Bool, true, false, cond, List, [], ◌∷◌, length, Some, None, Option, ◌==◌, slice_index}
-use Rattle.plant_refusal.specs.declared.Refusal.{Refusal}
+use Rattle.refusal.specs.declared.Refusal.{Refusal}
 use Rattle.plant.specs.Model.{Distinct}
 
 -- a call: to open or forget a state, to begin a walk at an initial state, to step along an arc, to leave the walk

@@ -1,7 +1,7 @@
--- The law of a session: how each call is answered after a history. Relies on History, plant's models and plant_refusal's tables.
+-- The law of a session: how each call is answered after a history. Relies on History, plant's models and refusal's tables.
 use Rattle.std.specs.Prelude.{◌≡◌, ℕ, ◌≤◌, true, false, List, [], ◌∷◌, length, is_some, IfSome, None, Option, MatchOption}
-use Rattle.plant_refusal.specs.declared.Layer.TheVariants.{Session}
-use Rattle.plant_refusal.specs.Rows.{Row, Clear, First}
+use Rattle.refusal.specs.declared.Layer.TheVariants.{Session}
+use Rattle.refusal.specs.Rows.{Row, Clear, First}
 use Rattle.plant.specs.Model.{Model, initial_at, arc_at}
 use Rattle.book.specs.Records.{Saying, says}
 use Rattle.session.specs.History.{Asked, open_state, forget, begin, step, leave, Told, done, reached, refused, Turn, is_open, walk_of, Lists}

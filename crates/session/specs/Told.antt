@@ -1,8 +1,8 @@
 -- What the calls' results tell. Relies on History and book.
 use Rattle.std.specs.Prelude.{ℕ, Ok, Err, Result}
-use Rattle.plant_refusal.specs.declared.Refusal.{Refusal}
-use Rattle.plant_refusal.specs.declared.Layer.TheVariants.{Session}
-use Rattle.plant_refusal.specs.Causes.{Gives}
+use Rattle.refusal.specs.declared.Refusal.{Refusal}
+use Rattle.refusal.specs.declared.Layer.TheVariants.{Session}
+use Rattle.refusal.specs.Causes.{Gives}
 use Rattle.book.specs.declared.edits.NotAdded.{NotAdded}
 use Rattle.book.specs.declared.edits.NotAdded.TheVariants.{Present, Full}
 use Rattle.session.specs.History.{Told, done, reached, refused}

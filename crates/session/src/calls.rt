@@ -8,7 +8,7 @@ use crate::session::Session;
 use book::book::Book;
 use book::edits::NotAdded;
 use plant::Plant;
-use plant_refusal::{Cause, Refusal};
+use refusal::{Cause, Refusal};
 
 // The refusal of a state that the book did not take.
 fn not_opened(why: NotAdded) -> Refusal

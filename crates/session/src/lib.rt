@@ -1,4 +1,4 @@
-// Sessions: states of a plant are opened and forgotten, and a walk goes along arcs. Relies on plant_refusal, plant and book.
+// Sessions: states of a plant are opened and forgotten, and a walk goes along arcs. Relies on refusal, plant and book.
 #![tactic(auto)]
 
 pub mod calls;

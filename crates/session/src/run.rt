@@ -8,7 +8,7 @@ ghost use Rattle.session.specs.Told.{told_done, told_state};
 use crate::session::Session;
 use crate::turns::{Answer, Call};
 use plant::Plant;
-use plant_refusal::Refusal;
+use refusal::Refusal;
 use std::alloc::{AllocError, Global};
 
 fn done(res: Result<(), Refusal>) -> Answer

@@ -1,6 +1,6 @@
 // The test of a run over the open states. Relies on session and runs.
 ghost use Rattle.std.specs.Prelude.{◌≡◌, ℕ, ◌<◌, List, length, Decides, MatchResult, slice_index};
-ghost use Rattle.plant_refusal.specs.Rows.{Clear, First};
+ghost use Rattle.refusal.specs.Rows.{Clear, First};
 ghost use Rattle.formula.specs.View.{entries_of, tree_of};
 ghost use Rattle.meaning.specs.Runs.{Satisfies};
 ghost use Rattle.runs.specs.Known.{run_of};
@@ -11,7 +11,7 @@ ghost use Rattle.session.specs.Sessions.{Lived};
 use crate::session::Session;
 use formula::formula::Formula;
 use plant::Plant;
-use plant_refusal::Refusal;
+use refusal::Refusal;
 use runs::arrays::Arrays;
 
 impl<P: Plant> Session<P> {

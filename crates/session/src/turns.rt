@@ -1,5 +1,5 @@
-// Calls and answers as values. Relies on plant_refusal.
-use plant_refusal::Refusal;
+// Calls and answers as values. Relies on refusal.
+use refusal::Refusal;
 
 // A call that changes a session, or could.
 #[derive(Clone, Copy)]

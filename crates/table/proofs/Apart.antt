@@ -3,7 +3,7 @@ use Rattle.std.proofs.Common.{◌≡◌, ℕ, ◌+◌, ◌<◌, ◌≤◌, List,
 use Rattle.std.proofs.lemmas.List.{take-take, get_or_past, get_or_default}
 use Rattle.std.proofs.lemmas.List.Sums.{sum_by_more, sum_by-take-le}
 use Rattle.std.proofs.lemmas.Bool.{cases_lt}
-use Rattle.plant_refusal.specs.Rows.{Lowest}
+use Rattle.refusal.specs.Rows.{Lowest}
 use Rattle.meaning.specs.Systems.{no_arc}
 use Rattle.plant.specs.Model.{Distinct}
 use Rattle.table.specs.Words.{state_count, initial_count, arc_count, at_events, part, initials, counts, events, targets, paired, all_arcs, arcs_of}

@@ -4,7 +4,7 @@ use Rattle.std.proofs.Common.{◌≡◌, ℕ, zero, suc, ◌+◌, ◌-◌, ◌^�
 use Rattle.std.proofs.lemmas.List.{get_or_past}
 use Rattle.std.proofs.lemmas.List.Sums.{sum_by-take-le}
 use Rattle.std.proofs.lemmas.Bool.{cases_lt}
-use Rattle.plant_refusal.specs.Rows.{Clear}
+use Rattle.refusal.specs.Rows.{Clear}
 use Rattle.meaning.specs.declared.Arc.{Arc}
 use Rattle.meaning.specs.Systems.{no_arc}
 use Rattle.plant.specs.Model.{Lawful}

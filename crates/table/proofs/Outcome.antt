@@ -1,8 +1,8 @@
--- Words have one answer. Relies on plant_refusal's theorems.
+-- Words have one answer. Relies on refusal's theorems.
 use Rattle.std.proofs.Common.{◌≡◌, ℕ, List, Err, Result, sym, ap, ◌∙◌}
-use Rattle.plant_refusal.specs.declared.Refusal.{Refusal}
-use Rattle.plant_refusal.specs.Rows.{Clear, First}
-use Rattle.plant_refusal.proofs.Settled.{AllSteady, one_lowest, one_fails, one_refusal, not_both}
+use Rattle.refusal.specs.declared.Refusal.{Refusal}
+use Rattle.refusal.specs.Rows.{Clear, First}
+use Rattle.refusal.proofs.Settled.{AllSteady, one_lowest, one_fails, one_refusal, not_both}
 use Rattle.plant.specs.declared.Failure.{Failure}
 use Rattle.plant.specs.declared.Failure.TheVariants.{Refused}
 use Rattle.table.specs.Refused.{rows}

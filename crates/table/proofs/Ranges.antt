@@ -1,7 +1,7 @@
 -- Where the words of a table are out of range. Relies on Lookups.
 use Rattle.std.proofs.Common.{◌≡◌, ℕ, ◌+◌, ◌-◌, ◌<◌, ◌≤◌, List, length, get_or, ap, inl, inr, ⊎_elim, arith}
 use Rattle.std.proofs.lemmas.Bool.{cases_lt}
-use Rattle.plant_refusal.specs.Rows.{Lowest}
+use Rattle.refusal.specs.Rows.{Lowest}
 use Rattle.table.specs.Words.{state_count, event_count, initial_count, arc_count, at_facts, at_counts, at_events, at_targets, part, initials, facts, counts, events, targets}
 use Rattle.table.specs.Refused.{least, most, Beyond, OutOfRange, initial, count, event, target}
 use Rattle.table.specs.Sections.{Measured, FirstBeyond}

@@ -1,6 +1,6 @@
 -- What is granted: a plant that is what the words mean. Relies on Words, Refused and Parts.
 use Rattle.std.specs.Prelude.{◌≡◌, ℕ, ◌+◌, ◌≤◌, List, take, vec_items, vec_len, sum}
-use Rattle.plant_refusal.specs.Rows.{Clear}
+use Rattle.refusal.specs.Rows.{Clear}
 use Rattle.plant.specs.Model.{Model, Lawful}
 use Rattle.table.specs.Words.{state_count, event_count, initials, facts, counts, all_arcs, largest, meant}
 use Rattle.table.specs.Refused.{rows}

@@ -1,7 +1,7 @@
--- Which words are no table plant, and why. Relies on Words and plant_refusal's tables of refusals.
+-- Which words are no table plant, and why. Relies on Words and refusal's tables of refusals.
 use Rattle.std.specs.Prelude.{◌≡◌, ℕ, ◌+◌, ◌<◌, ◌≤◌, ◌⊎◌, List, [], ◌∷◌, length, take, sum, ◌≢◌, slice_index, slice_index_or}
-use Rattle.plant_refusal.specs.Rows.{Row, Lowest, Fails}
-use Rattle.plant_refusal.specs.declared.Layer.TheVariants.{Plant}
+use Rattle.refusal.specs.Rows.{Row, Lowest, Fails}
+use Rattle.refusal.specs.declared.Layer.TheVariants.{Plant}
 use Rattle.meaning.specs.Systems.{no_arc}
 use Rattle.table.specs.Words.{state_count, event_count, initial_count, arc_count, at_counts, at_events, at_targets, size, initials, counts, arcs_of}
 

@@ -1,6 +1,6 @@
 // The rules on what the arrays of a table plant hold. Relies on sections.
 ghost use Rattle.std.specs.Prelude.{◌≡◌, ℕ, ◌+◌, ◌<◌, ◌≤◌, List, length, Decides, sum, MatchOption, MatchResult, slice_index};
-ghost use Rattle.plant_refusal.specs.Rows.{First, Lowest};
+ghost use Rattle.refusal.specs.Rows.{First, Lowest};
 ghost use Rattle.plant.specs.Model.{Distinct};
 ghost use Rattle.table.specs.Words.{arc_count, counts as counts_of, paired, part, all_arcs};
 ghost use Rattle.table.specs.Refused.{OutOfRange, Repeated, rows};
@@ -8,7 +8,7 @@ ghost use Rattle.table.specs.Sections.{Cut, Kept, FirstBeyond, Again};
 
 use crate::section::section;
 use crate::sections::Sections;
-use plant_refusal::{Cause, Refusal};
+use refusal::{Cause, Refusal};
 
 // The lowest place whose word is not below the limit.
 fn first_beyond(words: &[u32], limit: u32) -> Option<usize>

@@ -1,4 +1,4 @@
-// Table plants: every state and every arc is written down in words. Relies on plant_refusal, meaning and plant.
+// Table plants: every state and every arc is written down in words. Relies on refusal, meaning and plant.
 #![tactic(auto)]
 
 mod checks;

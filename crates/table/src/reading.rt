@@ -1,7 +1,7 @@
 // Reading a table plant from words. Relies on checks and table.
 ghost use Rattle.std.specs.Prelude.{◌≡◌, ℕ, ◌+◌, ◌<◌, ◌≤◌, List, length, take, IfOk, Err, vec_len, sum, MatchResult, slice_index};
-ghost use Rattle.plant_refusal.specs.Rows.{First};
-ghost use Rattle.plant_refusal.specs.declared.Refusal.{Refusal as Given};
+ghost use Rattle.refusal.specs.Rows.{First};
+ghost use Rattle.refusal.specs.declared.Refusal.{Refusal as Given};
 ghost use Rattle.plant.specs.Making.{Failed};
 ghost use Rattle.plant.specs.declared.Failure.TheVariants.{Refused as ByRule};
 ghost use Rattle.table.specs.Words.{largest, paired};

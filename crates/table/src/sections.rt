@@ -1,11 +1,11 @@
 // A table plant's words, cut into their arrays. Relies on section.
 ghost use Rattle.std.specs.Prelude.{◌≡◌, ℕ, ◌≤◌, length, MatchOption, MatchResult};
-ghost use Rattle.plant_refusal.specs.Rows.{First, Lowest};
+ghost use Rattle.refusal.specs.Rows.{First, Lowest};
 ghost use Rattle.table.specs.Refused.{OffLimits, rows};
 ghost use Rattle.table.specs.Sections.{Cut};
 
 use crate::section::section;
-use plant_refusal::{Cause, Refusal};
+use refusal::{Cause, Refusal};
 
 #[derive(Clone, Copy)]
 pub struct Sections<'a> {

@@ -1,5 +1,5 @@
 use Rattle.std.proofs.Common.{◌≡◌, ◌+◌, length, ap, subst, arith}
-use Rattle.plant_refusal.specs.Rows.{Lowest}
+use Rattle.refusal.specs.Rows.{Lowest}
 use Rattle.table.specs.Words.{state_count, event_count, at_counts, at_events, at_targets}
 use Rattle.table.specs.Refused.{OutOfRange}
 use Rattle.table.specs.Sections.{Cut, FirstBeyond}

@@ -1,5 +1,5 @@
 use Rattle.std.proofs.Common.{◌≡◌, ℕ, ◌+◌, ◌-◌, ◌*◌, ◌<◌, ◌≤◌, length, get_or, sum, ap, subst, arith, below_more}
-use Rattle.plant_refusal.specs.Rows.{Lowest}
+use Rattle.refusal.specs.Rows.{Lowest}
 use Rattle.plant.specs.Model.{Distinct}
 use Rattle.table.specs.Words.{state_count, arc_count, at_events, part, counts, all_arcs, arcs_of}
 use Rattle.table.specs.Refused.{Repeated}

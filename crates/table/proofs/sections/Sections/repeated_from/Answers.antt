@@ -1,5 +1,5 @@
 use Rattle.std.proofs.Common.{◌≡◌, length, sym, ap, ◌∙◌, subst, arith, MatchOption}
-use Rattle.plant_refusal.specs.Rows.{Lowest}
+use Rattle.refusal.specs.Rows.{Lowest}
 use Rattle.plant.specs.Model.{Distinct}
 use Rattle.table.specs.Words.{events, targets, part, paired, all_arcs}
 use Rattle.table.specs.Sections.{Again}

@@ -1,8 +1,8 @@
 -- Tables of refusals: rows in an order, of which the first that applies is given. Relies on Causes.
 use Rattle.std.specs.Prelude.{◌≡◌, ℕ, ◌<◌, ◌⊎◌, List, [], ◌∷◌}
-use Rattle.plant_refusal.specs.declared.Layer.{Layer}
-use Rattle.plant_refusal.specs.declared.Refusal.{Refusal}
-use Rattle.plant_refusal.specs.Causes.{Gives}
+use Rattle.refusal.specs.declared.Layer.{Layer}
+use Rattle.refusal.specs.declared.Refusal.{Refusal}
+use Rattle.refusal.specs.Causes.{Gives}
 
 -- a row: its number, its layer, and at which place it applies to what was asked
 pub record Row : Type 1 where

@@ -1,10 +1,10 @@
 -- A table of refusals gives one refusal at most, and none where no row applies. Relies on Same.
 use Rattle.std.proofs.Common.{◌≡◌, ℕ, zero, suc, ◌<◌, List, [], ◌∷◌, subst, inl, inr, ⊎_elim, arith}
 use Rattle.std.proofs.lemmas.Bool.{cases_lt}
-use Rattle.plant_refusal.specs.declared.Refusal.{Refusal}
-use Rattle.plant_refusal.specs.Causes.{Gives}
-use Rattle.plant_refusal.specs.Rows.{Row, Clear, First, Lowest, Fails}
-use Rattle.plant_refusal.proofs.Same.{same}
+use Rattle.refusal.specs.declared.Refusal.{Refusal}
+use Rattle.refusal.specs.Causes.{Gives}
+use Rattle.refusal.specs.Rows.{Row, Clear, First, Lowest, Fails}
+use Rattle.refusal.proofs.Same.{same}
 
 -- a row applies at one place at most
 abbrev pub Steady : Row → Type 0
