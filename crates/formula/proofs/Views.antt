@@ -1,6 +1,5 @@
 -- The entries of a formula as a part of its array. Assumes nothing.
 use Rattle.std.proofs.Common.{◌≡◌, ℕ, ◌+◌, ◌-◌, ◌<◌, ◌≤◌, true, length, take, drop, ap, ◌∙◌, arith, take-append-drop, length-take-le}
-use native.Mathlib.Nat.{sub-zero}
 use Rattle.std.proofs.lemmas.List.Sums.{sum_by-append}
 use Rattle.formula.specs.Atoms.{atom, value}
 use Rattle.formula.specs.Evaluated.{Evaluated, value_at, offset_of}
@@ -16,10 +15,6 @@ use Rattle.formula.proofs.Stacks.{whole_sound}
 module _ (f : Formula) where
   pub view_length : length (entries_of f) ≡ f.len
   view_length = length-take-le f.len f.entries (omega (arith, f.full, f.fits))
-
-  -- as it is lent
-  pub lent : take (f.len - 0) f.entries ≡ entries_of f
-  lent = ap (λ k. take k f.entries) (sub-zero f.len)
 
   pub view_some : 1 ≤ length (entries_of f)
   view_some = omega (arith, some_size (tree (entries_of f)), ap length f.whole)

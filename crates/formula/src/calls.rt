@@ -17,7 +17,7 @@ impl Formula {
     pub fn entries(&self) -> &[Entry]
         ensures { result.now ≡ entries_of self.now }
     {
-        &self.entries[0..self.len]
+        &self.entries[..self.len]
     }
 
     // How many entries it has: 1 to 48.
@@ -40,11 +40,7 @@ impl Formula {
     pub fn entry(&self, at: usize) -> Option<Entry>
         ensures { MatchOption result (length (entries_of self.now) ≤ at) (λ e. (at < length (entries_of self.now)) × (e ≡ slice_index_or (entries_of self.now) at True)) }
     {
-        let entries = self.entries();
-        if at >= entries.len() {
-            return None;
-        }
-        Some(entries[at])
+        self.entries().get(at).copied()
     }
 
     // How many entries belong to the formula that ends at an entry; none past the end.
@@ -67,7 +63,7 @@ impl Formula {
         if at >= entries.len() {
             return None;
         }
-        let count = weigh(&entries[0..at + 1]);
+        let count = weigh(&entries[..at + 1]);
         Some(evaluate(entries, at, count, word).holds)
     }
 }

@@ -3,7 +3,7 @@ ghost use Rattle.std.specs.Prelude.{◌≡◌, if◌then◌else◌, MatchOption}
 ghost use Rattle.formula.specs.Table.{arity, elementary};
 ghost use Rattle.formula.specs.Words.{kind_of, argument_of, Spells};
 
-#[derive(Clone, Copy)]
+#[derive(Clone, Copy, Debug, PartialEq, Eq)]
 pub enum Entry {
     True,
     // a fact of the state, by its number
@@ -19,7 +19,7 @@ pub enum Entry {
 }
 
 impl Entry {
-    // The entry that a kind and an argument spell, if they spell one.
+    // The entry that a kind and an argument spell, if they spell one. No `TryFrom`: it would say `(u32, u32)` and not which is which.
     pub fn spelled(kind: u32, argument: u32) -> Option<Entry>
         ensures { MatchOption result ((e : Entry) → Spells kind argument e → ⊥) (λ e. Spells kind argument e) }
     {

@@ -28,11 +28,11 @@ impl Part {
     }
 }
 
-fn bit(word: u32, place: usize) -> bool
-    requires { place < 32 }
+// Bit `place` of a word; past its end every bit is 0.
+pub fn bit(word: u32, place: usize) -> bool
     ensures { result ≡ bit_of word place }
 {
-    (word >> place) & 1 == 1
+    place < 32 && (word >> place) & 1 == 1
 }
 
 // By recursion over the entries; `count` is how many elementary entries there are up to `at`.

@@ -27,11 +27,9 @@ fn listed(words: &[u32], n: usize) -> Result<[Entry; 48], usize>
     ensures { MatchResult result (λ es. (length es ≡ 48) × Lists words.now (take n es)) (λ i. Unspelled words.now i) }
 {
     let mut entries = [Entry::True; 48];
-    for i in 0..n {
-        match Entry::spelled(words[1 + i], words[1 + n + i]) {
-            Some(e) => entries[i] = e,
-            None => return Err(i),
-        }
+    let (kinds, arguments) = words[1..].split_at(n);
+    for (i, kind) in kinds.iter().enumerate() {
+        entries[i] = Entry::spelled(*kind, arguments[i]).ok_or(i)?;
     }
     Ok(entries)
 }
@@ -59,13 +57,7 @@ fn joined(entries: &[Entry]) -> Result<(), usize>
 pub fn weigh(entries: &[Entry]) -> usize
     ensures { result ≡ weight entries.now }
 {
-    let mut sum = 0;
-    for e in entries {
-        if e.is_elementary() {
-            sum += 1;
-        }
-    }
-    sum
+    entries.iter().filter(|e| e.is_elementary()).count()
 }
 
 impl Formula {
@@ -75,17 +67,10 @@ impl Formula {
         ensures only { (e : Given) → Refused words.now e → result ≡ Err e }
         ensures tree { OneTree }
     {
-        let Some(n) = counted(words) else {
-            return Err(Cause::TableLength.at(0));
-        };
-        let entries = match listed(words, n) {
-            Ok(entries) => entries,
-            Err(i) => return Err(Cause::TableEntry.at(i)),
-        };
-        if let Err(i) = joined(&entries[0..n]) {
-            return Err(Cause::TableParts.at(i));
-        }
-        if weigh(&entries[0..n]) > 10 {
+        let n = counted(words).ok_or(Cause::TableLength.at(0))?;
+        let entries = listed(words, n).map_err(|i| Cause::TableEntry.at(i))?;
+        joined(&entries[..n]).map_err(|i| Cause::TableParts.at(i))?;
+        if weigh(&entries[..n]) > 10 {
             return Err(Cause::TableElementary.at(0));
         }
         Ok(Formula { entries, len: n })

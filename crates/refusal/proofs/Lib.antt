@@ -1,2 +1,3 @@
+pub mod Mapped
 pub mod Same
 pub mod Settled

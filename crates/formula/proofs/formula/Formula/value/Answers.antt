@@ -1,5 +1,4 @@
 use Rattle.std.proofs.Common.{◌≡◌, ◌+◌, ◌<◌, true, length, take, sym, ap, ◌∙◌, subst, arith}
-use native.Mathlib.Nat.{sub-zero}
 use Rattle.formula.specs.Evaluated.{Evaluated}
 use Rattle.formula.specs.Stack.{sound}
 use Rattle.formula.specs.Table.{weight}
@@ -12,7 +11,7 @@ evaluate-requires c =
     let f = c.args.self.now in
     let i = c.args.at in
     let is = c.entries-entries.ensures in
-    let counted = c.weigh-count.ensures ∙ ap (λ k. weight (take k c.entries-entries.result.now)) (sub-zero (i + 1)) in
+    let counted = c.weigh-count.ensures in
     record {
       within = c.if-at-entries.false;
       whole = subst (λ l. sound 0 l ≡ true) (sym is) (view_sound f);
@@ -29,6 +28,6 @@ returns c =
     let inside : i < length (entries_of f) = omega (arith, lt, ap length is) in (
       inside,
       evaluated_at f inside
-          (c.weigh-count.ensures ∙ ap (λ k. weight (take k c.entries-entries.result.now)) (sub-zero (i + 1)) ∙ ap (λ l. weight (take (i + 1) l)) is)
+          (c.weigh-count.ensures ∙ ap (λ l. weight (take (i + 1) l)) is)
           (subst (λ l. Evaluated l i c.weigh-count.result c.args.word c.evaluate.result) is c.evaluate.ensures),
     )
