@@ -9,28 +9,29 @@ use grammar::{Joint, Prefix};
 impl Draft {
     // No entries yet.
     pub fn new() -> Draft
-        ensures { Drafted result.entries result.count [] }
+        ensures { Drafted result [] }
     {
         Draft {
             entries: [Entry::True; 48],
-            count: 0,
+            count: Some(0),
         }
     }
 
     pub fn add(&mut self, e: Entry)
-        ensures { Adds self.old.entries self.old.count self.new.entries self.new.count (e ∷ []) }
+        ensures { Adds self.old self.new (e ∷ []) }
     {
-        if self.count >= 48 {
-            self.count = 49;
-            return;
+        match self.count {
+            Some(count) if count < 48 => {
+                self.entries[count] = e;
+                self.count = Some(count + 1);
+            }
+            _ => self.count = None,
         }
-        self.entries[self.count] = e;
-        self.count += 1;
     }
 
     // What stands before the part of a prefix.
     pub fn add_front(&mut self, prefix: Prefix)
-        ensures { Adds self.old.entries self.old.count self.new.entries self.new.count (front prefix) }
+        ensures { Adds self.old self.new (front prefix) }
     {
         match prefix {
             Prefix::Not | Prefix::Next => {}
@@ -40,7 +41,7 @@ impl Draft {
 
     // What stands behind it.
     pub fn add_rear(&mut self, prefix: Prefix)
-        ensures { Adds self.old.entries self.old.count self.new.entries self.new.count (rear prefix) }
+        ensures { Adds self.old self.new (rear prefix) }
     {
         match prefix {
             Prefix::Not => self.add(Entry::Not),
@@ -56,7 +57,7 @@ impl Draft {
 
     // What stands between the parts that a sign joins.
     pub fn add_between(&mut self, joint: Joint)
-        ensures { Adds self.old.entries self.old.count self.new.entries self.new.count (between joint) }
+        ensures { Adds self.old self.new (between joint) }
     {
         match joint {
             Joint::And | Joint::Implies => self.add(Entry::Not),
@@ -66,7 +67,7 @@ impl Draft {
 
     // What stands behind them.
     pub fn add_behind(&mut self, joint: Joint)
-        ensures { Adds self.old.entries self.old.count self.new.entries self.new.count (behind joint) }
+        ensures { Adds self.old self.new (behind joint) }
     {
         match joint {
             Joint::Or | Joint::Implies => self.add(Entry::Or),

@@ -1,4 +1,4 @@
-// A table as it is read: the first 48 entries are kept, and a count tells whether there were more.
+// A table as it is read: the first 48 entries are kept, in an array that needs no heap.
 ghost use Rattle.std.specs.Prelude.{◌≡◌, length};
 
 use formula::entry::Entry;
@@ -6,7 +6,7 @@ use formula::entry::Entry;
 #[derive(Drop)]
 pub struct Draft {
     pub entries: [Entry; 48],
-    // 49 stands for any number above 48
-    pub count: usize,
+    // how many there are; `None` is more than 48
+    pub count: Option<usize>,
     ghost full: { length entries ≡ 48 },
 }

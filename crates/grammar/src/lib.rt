@@ -2,7 +2,7 @@
 #![tactic(auto)]
 
 // What a letter names by a number: `pN`, `eN`, `[N]`.
-#[derive(Clone, Copy)]
+#[derive(Clone, Copy, Debug, PartialEq, Eq)]
 pub enum Name {
     Fact,
     Enabled,
@@ -10,7 +10,7 @@ pub enum Name {
 }
 
 // A letter before one formula: `!`, `X`, `F`, `G`.
-#[derive(Clone, Copy)]
+#[derive(Clone, Copy, Debug, PartialEq, Eq)]
 pub enum Prefix {
     Not,
     Next,
@@ -19,7 +19,7 @@ pub enum Prefix {
 }
 
 // A sign between two formulas: `|`, `&`, `>`, `U`.
-#[derive(Clone, Copy)]
+#[derive(Clone, Copy, Debug, PartialEq, Eq)]
 pub enum Joint {
     Or,
     And,
@@ -28,7 +28,7 @@ pub enum Joint {
 }
 
 // Why a text is none of the language.
-#[derive(Clone, Copy)]
+#[derive(Clone, Copy, Debug, PartialEq, Eq)]
 pub enum Fault {
     // the byte at this place is not allowed there
     Byte(usize),

@@ -2,7 +2,6 @@
 use Rattle.std.proofs.Common.{◌≡◌, ℕ, ◌<◌, eqb, List, [], ◌∷◌, ◌++◌, Ok, Err, Result, sym, refl, ap, ◌∙◌, subst, append_assoc, append-nil, arith, MatchResult}
 use Rattle.std.proofs.lemmas.Bool.{cond-false, ne_eqb}
 use Rattle.formula.specs.Table.{table}
-use Rattle.formula.specs.declared.entry.Entry.{Entry}
 use Rattle.formula.specs.declared.entry.Entry.TheVariants.{True, Fact, Enabled, Taken, Or, Until}
 use Rattle.grammar.specs.Machine.{Part, phrase, op, num, lit, name_parts, mark_of, mark_none, begin, outcome}
 use Rattle.grammar.specs.Phrases.{Phrase, truth, named, prefixed, joined, digits, opening, letter, sign, write, mean}
@@ -15,6 +14,7 @@ use Rattle.grammar.specs.declared.Name.TheVariants.{Fact as FactName, Enabled as
 use Rattle.grammar.specs.declared.Prefix.{Prefix}
 use Rattle.grammar.specs.declared.Prefix.TheVariants.{Not as Bang, Next as Ex, Finally, Globally}
 use Rattle.grammar.proofs.Marks.{mark_84, mark_40, mark_opening, mark_letter, shape}
+use Rattle.draft.specs.declared.draft.Draft.{Draft}
 use Rattle.draft.specs.Drafts.{Adds, front, rear, between, behind}
 use Rattle.text.specs.Spelled.{left, Char, Ended, Took, Failed, Named, Written}
 use Rattle.text.specs.declared.reader.Reader.{Reader}
@@ -38,15 +38,15 @@ unclosed : {r r' : Reader} {ys : List Part} {s : List ℕ} → Took ys r r' s �
 unclosed {r} {r'} {ys} {s} h = subst (Took ys r r') (sym (append-nil s)) h
 
 -- names
-module _ {r r' : Reader} {n : ℕ} where
-  module _ {had has : List Entry} {m q : ℕ} where
-    pub fact_named : q < 32 → Took (num FactName ∷ []) r r' (digits q) → Adds had n has m (Fact q ∷ []) → Named FactName r r' had n has m
+module _ {r r' : Reader} where
+  module _ {had has : Draft} {q : ℕ} where
+    pub fact_named : q < 32 → Took (num FactName ∷ []) r r' (digits q) → Adds had has (Fact q ∷ []) → Named FactName r r' had has
     fact_named lt h d = record { number = q; below = lt; took = unclosed h; drafted = d }
 
-    pub enabled_named : q < 64 → Took (num EnabledName ∷ []) r r' (digits q) → Adds had n has m (Enabled q ∷ []) → Named EnabledName r r' had n has m
+    pub enabled_named : q < 64 → Took (num EnabledName ∷ []) r r' (digits q) → Adds had has (Enabled q ∷ []) → Named EnabledName r r' had has
     enabled_named lt h d = record { number = q; below = lt; took = unclosed h; drafted = d }
 
-    pub taken_named : {r'' : Reader} → q < 64 → Took (num TakenName ∷ []) r r' (digits q) → Took (lit 93 ∷ []) r' r'' (93 ∷ []) → Adds had n has m (Taken q ∷ []) → Named TakenName r r'' had n has m
+    pub taken_named : {r'' : Reader} → q < 64 → Took (num TakenName ∷ []) r r' (digits q) → Took (lit 93 ∷ []) r' r'' (93 ∷ []) → Adds had has (Taken q ∷ []) → Named TakenName r r'' had has
     taken_named {r''} lt h z d = record {
       number = q;
       below = lt;
@@ -101,8 +101,8 @@ module _ {r r1 : Reader} where
       pub fails_shut : {r4 : Reader} {u : List ℕ} {d : Fault} → Took (phrase ∷ []) r3 r4 u → Failed (lit 41 ∷ []) r4 d → Failed (phrase ∷ []) r d
       fails_shut y j k = opens h k ∙ w.goes (op ∷ phrase ∷ lit 41 ∷ k) ∙ z.goes (phrase ∷ lit 41 ∷ k) ∙ y.goes (lit 41 ∷ k) ∙ j k
 
-  module _ {had : List Entry} {n : ℕ} where
-    pub is_truth : {has : List Entry} {m : ℕ} → Char r r1 84 → Adds had n has m (True ∷ []) → Written r r1 had n has m
+  module _ {had : Draft} where
+    pub is_truth : {has : Draft} → Char r r1 84 → Adds had has (True ∷ []) → Written r r1 had has
     is_truth h d = record {
       says = truth;
       fine = tt;
@@ -110,7 +110,7 @@ module _ {r r1 : Reader} where
       drafted = d;
     }
 
-    pub is_name : {r2 : Reader} {has : List Entry} {m : ℕ} (a : Name) → Char r r1 (opening a) → Named a r1 r2 had n has m → Written r r2 had n has m
+    pub is_name : {r2 : Reader} {has : Draft} (a : Name) → Char r r1 (opening a) → Named a r1 r2 had has → Written r r2 had has
     is_name a h w = record {
       says = named a w.number;
       fine = w.below;
@@ -122,7 +122,7 @@ module _ {r r1 : Reader} where
       drafted = w.drafted;
     }
 
-    pub is_prefix : {r2 : Reader} {one mid has : List Entry} {m i o : ℕ} (x : Prefix) → Char r r1 (letter x) → Adds had n one m (front x) → Written r1 r2 one m mid i → Adds mid i has o (rear x) → Written r r2 had n has o
+    pub is_prefix : {r2 : Reader} {one mid has : Draft} (x : Prefix) → Char r r1 (letter x) → Adds had one (front x) → Written r1 r2 one mid → Adds mid has (rear x) → Written r r2 had has
     is_prefix x h a w d = record {
       says = prefixed x w.says;
       fine = w.fine;
@@ -134,7 +134,7 @@ module _ {r r1 : Reader} where
       drafted = renamed (flat_prefix x w.says) (adds (adds a w.drafted) d);
     }
 
-    pub is_two : {r2 r3 r4 r5 : Reader} {d1 d2 d3 has : List Entry} {n1 n2 n3 m : ℕ} (j : Joint) → Char r r1 40 → Written r1 r2 had n d1 n1 → Took (op ∷ []) r2 r3 (sign j ∷ []) → Adds d1 n1 d2 n2 (between j) → Written r3 r4 d2 n2 d3 n3 → Took (lit 41 ∷ []) r4 r5 (41 ∷ []) → Adds d3 n3 has m (behind j) → Written r r5 had n has m
+    pub is_two : {r2 r3 r4 r5 : Reader} {d1 d2 d3 has : Draft} (j : Joint) → Char r r1 40 → Written r1 r2 had d1 → Took (op ∷ []) r2 r3 (sign j ∷ []) → Adds d1 d2 (between j) → Written r3 r4 d2 d3 → Took (lit 41 ∷ []) r4 r5 (41 ∷ []) → Adds d3 has (behind j) → Written r r5 had has
     is_two {r5 = r5} j h w z d v y d' = record {
       says = joined j w.says v.says;
       fine = (w.fine, v.fine);
@@ -149,6 +149,6 @@ module _ {r r1 : Reader} where
     }
 
 -- a name that is read or cannot be, behind its first byte
-pub name_cases : (r r1 r2 : Reader) (had : List Entry) (n : ℕ) (has : List Entry) (m : ℕ) (o : Result (Unit {0}) Fault) (a : Name) → Char r r1 (opening a) → MatchResult o (λ _. Named a r1 r2 had n has m) (λ e. Failed (name_parts a) r1 e) → MatchResult o (λ _. Written r r2 had n has m) (λ e. Failed (phrase ∷ []) r e)
-name_cases r r1 r2 had n has m (Ok x) a h w = is_name a h w
-name_cases r r1 r2 had n has m (Err e) a h w = fails_name a h w
+pub name_cases : (r r1 r2 : Reader) (had has : Draft) (o : Result (Unit {0}) Fault) (a : Name) → Char r r1 (opening a) → MatchResult o (λ _. Named a r1 r2 had has) (λ e. Failed (name_parts a) r1 e) → MatchResult o (λ _. Written r r2 had has) (λ e. Failed (phrase ∷ []) r e)
+name_cases r r1 r2 had has (Ok x) a h w = is_name a h w
+name_cases r r1 r2 had has (Err e) a h w = fails_name a h w

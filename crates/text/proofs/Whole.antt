@@ -1,6 +1,6 @@
 -- The whole text. Assumes nothing.
-use Rattle.std.proofs.Common.{◌≡◌, ℕ, ◌-◌, ◌<◌, ◌≤◌, true, List, [], ◌∷◌, ◌++◌, length, take, Ok, Err, Result, sym, refl, ap, ◌∙◌, subst, append-nil, arith, MatchResult}
-use native.Mathlib.Nat.{sub-zero}
+use Rattle.std.proofs.Common.{◌≡◌, ℕ, ◌<◌, ◌≤◌, true, List, [], ◌∷◌, ◌++◌, length, take, None, Some, Ok, Err, Result, sym, refl, ap, ◌∙◌, subst, append-nil, arith, MatchResult}
+use Rattle.draft.specs.declared.draft.Draft.{Draft}
 use Rattle.draft.specs.Drafts.{Drafted}
 use Rattle.formula.specs.Ltl.{Ltl, top, neg, or, until}
 use Rattle.formula.specs.Stack.{in_range, tree}
@@ -83,7 +83,7 @@ mean_in_range (joined And p q) h = neg_in_range (or (neg (mean p)) (neg (mean q)
 mean_in_range (joined Implies p q) h = two_in_range (neg (mean p)) (mean q) Or refl (neg_in_range (mean p) (mean_in_range p h.0)) (mean_in_range q h.1)
 mean_in_range (joined Till p q) h = two_in_range (mean p) (mean q) Until refl (mean_in_range p h.0) (mean_in_range q h.1)
 
-module _ {r r' : Reader} {had has : List Entry} {n m : ℕ} (w : Written r r' had n has m) (end : left r' ≡ []) (none : Drafted had n []) where
+module _ {r r' : Reader} {had has : Draft} (w : Written r r' had has) (end : left r' ≡ []) (none : Drafted had []) where
   pub is : Is strict (left r)
   is = record {
     phrase = w.says;
@@ -91,30 +91,30 @@ module _ {r r' : Reader} {had has : List Entry} {n m : ℕ} (w : Written r r' ha
     text = sym (w.took.text ∙ ap (λ s. write w.says ++ s) end ∙ append-nil (write w.says));
   }
 
-  all : Drafted has m (table (mean w.says))
+  all : Drafted has (table (mean w.says))
   all = w.drafted [] none
 
-  pub too_many : {e : Refusal} → Sized (left r) → 48 < m → Gives e 25 Text 0 → Refused (left r) e
+  pub too_many : {e : Refusal} → Sized (left r) → has.count ≡ None → Gives e 25 Text 0 → Refused (left r) e
   unfolding is
   too_many s h g = by_table s is (λ k. omega (arith, more all h, k.0)) g
 
-  module _ (full : length has ≡ 48) (few : m ≤ 48) where
-    table_is : take m has ≡ table (mean w.says)
-    table_is = kept_all has m (table (mean w.says)) all full few
+  module _ {n : ℕ} (some : has.count ≡ Some n) where
+    pub few : n ≤ 48
+    few = (known all some).1
 
-    pub too_heavy : {e : Refusal} → Sized (left r) → 10 < weight (take m has) → Gives e 25 Text 0 → Refused (left r) e
+    table_is : take n has.entries ≡ table (mean w.says)
+    table_is = kept_all has n (table (mean w.says)) all some
+
+    pub too_heavy : {e : Refusal} → Sized (left r) → 10 < weight (take n has.entries) → Gives e 25 Text 0 → Refused (left r) e
     unfolding is
     too_heavy s h g = by_table s is (λ k. omega (arith, k.1, ap weight table_is)) g
 
-    pub granted : Sized (left r) → weight (take m has) ≤ 10 → Granted (left r) (take m has)
+    pub granted : Sized (left r) → weight (take n has.entries) ≤ 10 → Granted (left r) (take n has.entries)
     unfolding is
-    granted s h = record { sized = s; says = is; table_is = sym table_is; small = (omega (arith, known all few, ap length table_is), h) }
+    granted s h = record { sized = s; says = is; table_is = sym table_is; small = (omega (arith, known all some, ap length table_is), h) }
 
-    pub one_whole : table (tree (take m has)) ≡ take m has
+    pub one_whole : table (tree (take n has.entries)) ≡ take n has.entries
     one_whole = ap (λ es. table (tree es)) table_is ∙ ap table (tree_back (mean w.says)) ∙ sym table_is
 
-    pub all_in_range : in_range (take m has) ≡ true
+    pub all_in_range : in_range (take n has.entries) ≡ true
     all_in_range = subst (λ es. in_range es ≡ true) (sym table_is) (mean_in_range w.says w.fine)
-
-    pub weighed : {n : ℕ} → n ≡ weight (take (m - 0) has) → n ≡ weight (take m has)
-    weighed {n} eq = eq ∙ ap (λ k. weight (take k has)) (sub-zero m)

@@ -1,8 +1,8 @@
 -- What a reader has read. Inner contracts cite it, and no promise to a caller does. Assumes nothing.
 use Rattle.std.specs.Prelude.{◌≡◌, ℕ, ◌+◌, ◌<◌, List, [], ◌∷◌, ◌++◌, length, drop}
+use Rattle.draft.specs.declared.draft.Draft.{Draft}
 use Rattle.draft.specs.Drafts.{Adds}
 use Rattle.formula.specs.Table.{table}
-use Rattle.formula.specs.declared.entry.Entry.{Entry}
 use Rattle.grammar.specs.Machine.{Part, phrase, name_parts, outcome, not}
 use Rattle.grammar.specs.Phrases.{Phrase, digits, closing, naming, write, mean, Within, strict}
 use Rattle.grammar.specs.declared.Fault.{Fault}
@@ -38,18 +38,18 @@ abbrev pub Failed : List Part → Reader → Fault → Type 0
 Failed ys r e = (k : List Part) → outcome (ys ++ k) r.at (left r) ≡ not e
 
 -- behind the byte that opens it, a name has been read, and its entry has been added
-pub record Named (a : Name) (r r' : Reader) (had : List Entry) (n : ℕ) (has : List Entry) (m : ℕ) : Type 0 where
+pub record Named (a : Name) (r r' : Reader) (had has : Draft) : Type 0 where
   pub number : ℕ
   pub below : number < strict a
   pub took : Took (name_parts a) r r' (digits number ++ closing a)
-  pub drafted : Adds had n has m (table (naming a number))
+  pub drafted : Adds had has (table (naming a number))
 
 -- a phrase has been read, and its entries have been added
-pub record Written (r r' : Reader) (had : List Entry) (n : ℕ) (has : List Entry) (m : ℕ) : Type 0 where
+pub record Written (r r' : Reader) (had has : Draft) : Type 0 where
   pub says : Phrase
   pub fine : Within strict says
   pub took : Took (phrase ∷ []) r r' (write says)
-  pub drafted : Adds had n has m (table (mean says))
+  pub drafted : Adds had has (table (mean says))
 
 -- the refusal for a fault in a text of n bytes
 abbrev pub Tells : Refusal → Fault → ℕ → Type 0

@@ -11,7 +11,7 @@ use grammar::{Fault, Name, Prefix};
 impl Reader<'_> {
     // The number of a name, and what closes it.
     fn named(&mut self, name: Name, out: &mut Draft) -> Result<(), Fault>
-        ensures { MatchResult result (λ _. Named name self.old self.new out.old.entries out.old.count out.new.entries out.new.count) (λ e. Failed (name_parts name) self.old e) }
+        ensures { MatchResult result (λ _. Named name self.old self.new out.old out.new) (λ e. Failed (name_parts name) self.old e) }
     {
         let n = self.number(name)?;
         match name {
@@ -27,7 +27,7 @@ impl Reader<'_> {
 
     // One phrase. Its first letter decides what follows.
     pub(crate) fn phrase(&mut self, out: &mut Draft) -> Result<(), Fault>
-        ensures { MatchResult result (λ _. Written self.old self.new out.old.entries out.old.count out.new.entries out.new.count) (λ e. Failed (phrase ∷ []) self.old e) }
+        ensures { MatchResult result (λ _. Written self.old self.new out.old out.new) (λ e. Failed (phrase ∷ []) self.old e) }
     {
         let place = self.at;
         let prefix = match self.next()? {

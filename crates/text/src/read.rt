@@ -16,7 +16,7 @@ use formula::words::weigh;
 use grammar::Fault;
 use refusal::{Cause, Refusal};
 
-// The refusal for a fault in a text of `len` bytes.
+// The refusal for a fault in a text of `len` bytes. No `From`: where a text ends is not in the fault.
 fn refusal_of(fault: Fault, len: usize) -> Refusal
     ensures { Tells result fault len }
 {
@@ -30,7 +30,7 @@ fn refusal_of(fault: Fault, len: usize) -> Refusal
 impl Reader<'_> {
     // One phrase, and nothing behind it.
     fn whole(&mut self, out: &mut Draft) -> Result<(), Fault>
-        ensures { MatchResult result (λ _. Written self.old self.new out.old.entries out.old.count out.new.entries out.new.count × (left self.new ≡ [])) (λ e. outcome (phrase ∷ []) self.old.at (left self.old) ≡ not e) }
+        ensures { MatchResult result (λ _. Written self.old self.new out.old out.new × (left self.new ≡ [])) (λ e. outcome (phrase ∷ []) self.old.at (left self.old) ≡ not e) }
     {
         self.phrase(out)?;
         if self.at < self.text.len() {
@@ -52,14 +52,16 @@ pub fn from_text(text: &[u8]) -> Result<Formula, Refusal>
     }
     let mut reader = Reader { text, at: 0 };
     let mut out = Draft::new();
-    if let Err(fault) = reader.whole(&mut out) {
-        return Err(refusal_of(fault, text.len()));
-    }
-    if out.count > 48 || weigh(&out.entries[0..out.count]) > 10 {
-        return Err(Cause::TextTable.at(0));
+    reader
+        .whole(&mut out)
+        .map_err(|fault| refusal_of(fault, text.len()))?;
+    let too_large = Cause::TextTable.at(0);
+    let len = out.count.ok_or(too_large)?;
+    if weigh(&out.entries[..len]) > 10 {
+        return Err(too_large);
     }
     Ok(Formula {
         entries: out.entries,
-        len: out.count,
+        len,
     })
 }

@@ -22,10 +22,7 @@ impl Reader<'_> {
     pub(crate) fn next(&mut self) -> Result<char, Fault>
         ensures { MatchResult result (λ c. Char self.old self.new c) (λ e. Ended self.old e) }
     {
-        if self.at >= self.text.len() {
-            return Err(Fault::End);
-        }
-        let b = self.text[self.at];
+        let b = *self.text.get(self.at).ok_or(Fault::End)?;
         self.at += 1;
         Ok(char::from(b))
     }

@@ -11,13 +11,13 @@ pub returns-in-T : goal.returns-in-T
 returns-in-T t c = is_truth (letter_is c.in-T.is c.in_ok-next.ensures) c.add.ensures
 
 pub returns-in-p : goal.returns-in-p
-returns-in-p t c = name_cases c.args.self.now c.next.new.self c.named.new.self c.args.out.now.entries c.args.out.now.count c.named.new.out.entries c.named.new.out.count c.named.result Fact (letter_is c.in-p.is c.in_ok-next.ensures) c.named.ensures
+returns-in-p t c = name_cases c.args.self.now c.next.new.self c.named.new.self c.args.out.now c.named.new.out c.named.result Fact (letter_is c.in-p.is c.in_ok-next.ensures) c.named.ensures
 
 pub returns-in-e : goal.returns-in-e
-returns-in-e t c = name_cases c.args.self.now c.next.new.self c.named-in-e.new.self c.args.out.now.entries c.args.out.now.count c.named-in-e.new.out.entries c.named-in-e.new.out.count c.named-in-e.result Enabled (letter_is c.in-e.is c.in_ok-next.ensures) c.named-in-e.ensures
+returns-in-e t c = name_cases c.args.self.now c.next.new.self c.named-in-e.new.self c.args.out.now c.named-in-e.new.out c.named-in-e.result Enabled (letter_is c.in-e.is c.in_ok-next.ensures) c.named-in-e.ensures
 
 pub returns-in-91 : goal.returns-in-91
-returns-in-91 t c = name_cases c.args.self.now c.next.new.self c.named-in-91.new.self c.args.out.now.entries c.args.out.now.count c.named-in-91.new.out.entries c.named-in-91.new.out.count c.named-in-91.result Taken (letter_is c.in-91.is c.in_ok-next.ensures) c.named-in-91.ensures
+returns-in-91 t c = name_cases c.args.self.now c.next.new.self c.named-in-91.new.self c.args.out.now c.named-in-91.new.out c.named-in-91.result Taken (letter_is c.in-91.is c.in_ok-next.ensures) c.named-in-91.ensures
 
 pub returns-in_err-phrase-in-40 : goal.returns-in_err-phrase-in-40
 returns-in_err-phrase-in-40 t c = let q = err_from_is_err_and c.from_residual-in_err-phrase-in-40.result c.from_residual-in_err-phrase-in-40.ensures.1 in rw (q.1, q.2) (fails_one (letter_is c.in-40.is c.in_ok-next.ensures) c.in_err-phrase-in-40.ensures)

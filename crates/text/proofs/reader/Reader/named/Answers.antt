@@ -14,17 +14,17 @@ at {a} {b} {r} {r'} {q} eq h = subst (λ a. (q < strict a) × Took (num a ∷ []
 pub returns-in-Fact : goal.returns-in-Fact
 returns-in-Fact c =
     let h = at c.in-Fact.is c.in_ok-n.ensures in
-    subst (λ a. Named a c.args.self.now c.number.new.self c.args.out.now.entries c.args.out.now.count c.add.new.self.entries c.add.new.self.count) (sym c.in-Fact.is)
+    subst (λ a. Named a c.args.self.now c.number.new.self c.args.out.now c.add.new.self) (sym c.in-Fact.is)
     (fact_named h.0 h.1 c.add.ensures)
 
 pub returns-in-Enabled : goal.returns-in-Enabled
 returns-in-Enabled c =
     let h = at c.in-Enabled.is c.in_ok-n.ensures in
-    subst (λ a. Named a c.args.self.now c.number.new.self c.args.out.now.entries c.args.out.now.count c.add-in-Enabled.new.self.entries c.add-in-Enabled.new.self.count) (sym c.in-Enabled.is)
+    subst (λ a. Named a c.args.self.now c.number.new.self c.args.out.now c.add-in-Enabled.new.self) (sym c.in-Enabled.is)
     (enabled_named h.0 h.1 c.add-in-Enabled.ensures)
 
 pub returns-in_ok-expect-in-Taken : goal.returns-in_ok-expect-in-Taken
 returns-in_ok-expect-in-Taken c =
     let h = at c.in-Taken.is c.in_ok-n.ensures in
-    subst (λ a. Named a c.args.self.now c.expect.new.self c.args.out.now.entries c.args.out.now.count c.add-in-Taken.new.self.entries c.add-in-Taken.new.self.count) (sym c.in-Taken.is)
+    subst (λ a. Named a c.args.self.now c.expect.new.self c.args.out.now c.add-in-Taken.new.self) (sym c.in-Taken.is)
     (taken_named h.0 h.1 c.in_ok-expect-in-Taken.ensures c.add-in-Taken.ensures)
