@@ -35,7 +35,7 @@ pub shared_ref_as_front-weigh : goal.shared_ref_as_front-weigh
 shared_ref_as_front-weigh c =
     let q = MatchResult-at_ok _ _ _ (ok_before _ c.whole.result c.map_err.ensures.cases c.in_ok-map_err.was) c.whole.ensures in
     let some : c.whole.new.out.count ≡ Some c.in_ok-len.len = grind arith in
-    few q.0 q.1 c.new-out.ensures some
+    omega (arith, few q.0 q.1 c.new-out.ensures some)
 
 pub returns-then-weigh-gt10 : goal.returns-then-weigh-gt10
 returns-then-weigh-gt10 c =
