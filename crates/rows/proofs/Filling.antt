@@ -1,8 +1,7 @@
 -- The rows of a formula's entries, where the entries are lent by the formula. Assumes nothing.
-use Rattle.std.proofs.Common.{◌≡◌, ℕ, zero, suc, ◌+◌, ◌-◌, ◌*◌, ◌<◌, ◌≤◌, Bool, true, ◌⊎◌, List, [], ◌∷◌, length, get_or, sym, ap, ◌∙◌, subst, ⊎_elim, arith}
-use Rattle.std.proofs.lemmas.Bool.{and_parts}
-use Rattle.formula.specs.Stack.{sub, in_range}
-use Rattle.formula.specs.Table.{arity, ranged, size}
+use Rattle.std.proofs.Common.{◌≡◌, ℕ, ◌+◌, ◌-◌, ◌*◌, ◌<◌, ◌≤◌, Bool, ◌⊎◌, List, length, get_or, ap, ◌∙◌, subst, ⊎_elim, arith}
+use Rattle.formula.specs.Stack.{sub}
+use Rattle.formula.specs.Table.{arity, size}
 use Rattle.formula.specs.View.{entries_of}
 use Rattle.formula.specs.declared.entry.Entry.{Entry}
 use Rattle.formula.specs.declared.entry.Entry.TheVariants.{True, Fact, Enabled, Taken, Not, Or, Next, Until}
@@ -15,11 +14,6 @@ use Rattle.meaning.specs.Truth.{truth}
 use Rattle.rows.specs.Cells.{cell}
 use Rattle.rows.specs.Rows.{Stand}
 use Rattle.rows.proofs.Fits.{Fit1, Fit2, fit_one, fit_two, leaf_is, one_is, two_is}
-
-range_at : (es : List Entry) (i : ℕ) → in_range es ≡ true → i < length es → ranged (get_or es i True) ≡ true
-range_at [] i h lt = absurd (omega arith)
-range_at (e ∷ es) zero h lt = (and_parts (ranged e) (in_range es) h).0
-range_at (e ∷ es) (suc i) h lt = range_at es i (and_parts (ranged e) (in_range es) h).1 (omega arith)
 
 -- an entry with no part, with one, with two
 abbrev pub Leaf : Entry → Type 0
@@ -48,9 +42,6 @@ binary_stands e first last m out h k = record { one = λ _. k; two = λ _. h }
 
 -- the entries es are those of the formula f, and entry i is one of them
 module _ (f : Formula) (es : List Entry) (eq : es ≡ entries_of f) (i : ℕ) (within : i < length (entries_of f)) where
-  pub ranged_at : ranged (get_or es i True) ≡ true
-  ranged_at = subst (λ l. ranged (get_or l i True) ≡ true) (sym eq) (range_at (entries_of f) i f.ranged within)
-
   pub leaf_size : Leaf (get_or es i True) → 1 ≡ size (sub (entries_of f) i)
   leaf_size l = size_leaf (entries_of f) (view_sound f) i within (subst (λ es. Leaf (get_or es i True)) eq l)
 

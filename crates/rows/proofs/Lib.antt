@@ -1,3 +1,4 @@
+pub mod Backs
 pub mod Steps
 pub mod Turns
 pub mod Fits

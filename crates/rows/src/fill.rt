@@ -1,9 +1,8 @@
 // The rows of a formula's entries, by recursion over the entries.
-ghost use Rattle.std.specs.Prelude.{◌≡◌, ◌+◌, ◌-◌, ◌*◌, ◌<◌, ◌≤◌, true, length, ◌≢◌};
+ghost use Rattle.std.specs.Prelude.{◌≡◌, ◌+◌, ◌-◌, ◌*◌, ◌<◌, ◌≤◌, length};
 ghost use Rattle.formula.specs.Stack.{sub};
-ghost use Rattle.formula.specs.Table.{ranged, size};
+ghost use Rattle.formula.specs.Table.{size};
 ghost use Rattle.formula.specs.View.{entries_of};
-ghost use Rattle.formula.specs.declared.entry.Entry.TheVariants.{Until as TheUntil};
 ghost use Rattle.meaning.specs.Runs.{places};
 ghost use Rattle.meaning.specs.Truth.{truth};
 ghost use Rattle.rows.specs.Cells.{cell as cell_of, run_of};
@@ -17,29 +16,20 @@ use formula::entry::Entry;
 use formula::formula::Formula;
 
 impl Run<'_> {
-    fn plain_row<S: States>(&self, states: &S, e: Entry, parts: Parts, cells: &mut [u8], out: usize)
-        requires rows { (Stand e parts.first parts.last (places (run_of self.now)) out) × (out + places (run_of self.now) ≤ length cells.old) }
-        requires other { e ≢ TheUntil }
-        requires small { ranged e ≡ true }
-        ensures row { Row cells.new out (places (run_of self.now)) (cell_of (S.States.system states.now) (run_of self.now) e (on cells.old parts.first) (on cells.old parts.last)) }
-        ensures same { SameBelow cells.old cells.new out }
-    {
-        for p in 0..self.states.len() {
-            let holds = self.cell(states, e, parts, cells, p);
-            cells[out + p] = u8::from(holds);
-        }
-    }
-
     // The row of an entry from the rows of its parts.
     fn row<S: States>(&self, states: &S, e: Entry, parts: Parts, cells: &mut [u8], out: usize)
         requires rows { (Stand e parts.first parts.last (places (run_of self.now)) out) × (out + places (run_of self.now) ≤ length cells.old) }
-        requires small { ranged e ≡ true }
         ensures row { Row cells.new out (places (run_of self.now)) (cell_of (S.States.system states.now) (run_of self.now) e (on cells.old parts.first) (on cells.old parts.last)) }
         ensures same { SameBelow cells.old cells.new out }
     {
-        match e {
-            Entry::Until => until_row(cells, parts, out, self.states.len(), self.back),
-            _ => self.plain_row(states, e, parts, cells, out),
+        if let Entry::Until = e {
+            until_row(cells, parts, out, self.states.len(), self.back);
+            return;
+        }
+        // by place: each place looks at other rows of the same table, so a loop over this row's bytes would have to split it
+        for p in 0..self.states.len() {
+            let holds = self.cell(states, e, parts, cells, p);
+            cells[out + p] = u8::from(holds);
         }
     }
 

@@ -3,6 +3,7 @@
 
 pub mod cells;
 pub mod fill;
+pub mod places;
 pub mod run;
 pub mod states;
 pub mod sweeps;

@@ -8,14 +8,6 @@ use crate::run::Run;
 use crate::states::States;
 use formula::formula::Formula;
 
-fn clear(cells: &mut [u8])
-    ensures { (k : ℕ) → k < length cells.new → slice_index cells.new k ≡ 0 }
-{
-    for b in cells.iter_mut() {
-        *b = 0;
-    }
-}
-
 // Yes exactly when the run satisfies the formula; nothing where fewer bytes are lent than a row for each entry takes.
 // Afterwards every byte that was lent is 0, or as it was.
 pub fn test<S: States>(states: &S, run: &Run, formula: &Formula, cells: &mut [u8]) -> Option<bool>
@@ -24,15 +16,13 @@ pub fn test<S: States>(states: &S, run: &Run, formula: &Formula, cells: &mut [u8
 {
     let m = run.states.len();
     let n = formula.len();
-    let Some(needed) = n.checked_mul(m) else {
-        return None;
-    };
+    let needed = n.checked_mul(m)?;
     if cells.len() < needed {
         return None;
     }
     let root = n - 1;
     run.fill(states, formula, root, cells, root * m);
     let yes = cells[root * m] == 1;
-    clear(cells);
+    cells.fill(0);
     Some(yes)
 }

@@ -13,25 +13,10 @@ use std::time::Instant;
 use std::{env, io};
 use text::read::from_text;
 
-// The test of a formula's text on a run; nothing where it is no run or no formula, or where the bytes are too few.
-fn tried<'a, S: States>(
-    plant: &S,
-    states: &'a [u32],
-    events: &'a [u8],
-    back: usize,
-    text: &[u8],
-    cells: &mut [u8],
-) -> Option<bool> {
-    let formula = from_text(text).ok()?;
-    if states.is_empty() || events.len() != states.len() || back > states.len() {
-        return None;
-    }
-    let run = Run {
-        states,
-        events,
-        back,
-    };
-    test(plant, &run, &formula, cells)
+// The test of a formula's text on a run; nothing where it is no formula, or where the bytes are too few.
+fn tried<S: States>(plant: &S, run: &Run, text: &str, cells: &mut [u8]) -> Option<bool> {
+    let formula = from_text(text.as_bytes()).ok()?;
+    test(plant, run, &formula, cells)
 }
 
 fn word(answer: Option<bool>) -> &'static str {
@@ -42,18 +27,19 @@ fn word(answer: Option<bool>) -> &'static str {
     }
 }
 
-// What each of some formulas is on one run.
-fn answers<'a, S: States>(
+// What each of some formulas is on one run; nothing of arrays that are no run.
+fn answers<S: States>(
     rt: &HostRuntime,
     plant: &S,
-    states: &'a [u32],
-    events: &'a [u8],
-    back: usize,
+    run: Option<Run>,
     texts: &[&str],
     cells: &mut [u8],
 ) -> io::Result<()> {
+    let Some(run) = run else {
+        return Ok(());
+    };
     for text in texts {
-        let answer = word(tried(plant, states, events, back, text.as_bytes(), cells));
+        let answer = word(tried(plant, &run, text, cells));
         println!(rt; "{text} {answer}")?;
     }
     Ok(())
@@ -64,11 +50,23 @@ fn examples(rt: &HostRuntime) -> io::Result<()> {
     let heap = rt.alloc();
     let mut cells = vec![in heap; 7u8; 64]?;
     let round = ["Fp2", "XGp1", "GF[1]", "!p0"];
-    answers(rt, &Slide, &[0, 1], &[0, 1], 1, &round, &mut cells)?;
+    answers(
+        rt,
+        &Slide,
+        Run::new(&[0, 1], &[0, 1], 1),
+        &round,
+        &mut cells,
+    )?;
     let ends = ["GXT", "Fp2", "F!XT", "GFp1"];
-    answers(rt, &Slide, &[0, 1, 2], &[0, 2, 64], 3, &ends, &mut cells)?;
+    answers(
+        rt,
+        &Slide,
+        Run::new(&[0, 1, 2], &[0, 2, 64], 3),
+        &ends,
+        &mut cells,
+    )?;
     let still = ["!XT", "X!T", "(TUp0)", "GT"];
-    answers(rt, &Still, &[0], &[64], 1, &still, &mut cells)?;
+    answers(rt, &Still, Run::new(&[0], &[64], 1), &still, &mut cells)?;
     let left = cells.iter().copied().max().unwrap_or(0);
     println!(rt; "largest byte left {left}")?;
     // their contracts are the theorems that these answers rest on
@@ -82,24 +80,17 @@ const LONGEST: &str = "!!!G((p0&(e1&T))>F(([2]|(Xp3&!p5))U((p4&T)&(T>!T))))";
 // How long the test of the longest formula takes on a run of `places` places that goes back to its middle.
 fn timed(rt: &HostRuntime, places: u32) -> io::Result<()> {
     let heap = rt.alloc();
-    let mut states = Vec::new(heap);
-    let mut events = Vec::new(heap);
-    for i in 0..places {
-        states.push(i.wrapping_mul(2654435761) >> 7)?;
-        events.push(1 + (i % 2) as u8)?;
-    }
+    let states: Vec<u32> = (0..places)
+        .map(|i| i.wrapping_mul(2654435761) >> 7)
+        .collect(heap)?;
+    let events: Vec<u8> = (0..places).map(|i| 1 + (i % 2) as u8).collect(heap)?;
     let mut cells = vec![in heap; 0u8; 48 * places as usize]?;
+    let Some(run) = Run::new(&states, &events, places as usize / 2) else {
+        return Ok(());
+    };
     let start = Instant::now(rt)?;
-    let answer = tried(
-        &Noise,
-        &states,
-        &events,
-        places as usize / 2,
-        LONGEST.as_bytes(),
-        &mut cells,
-    );
+    let answer = word(tried(&Noise, &run, LONGEST, &mut cells));
     let took = start.elapsed(rt)?.as_micros();
-    let answer = word(answer);
     println!(rt; "places {places} micros {took} {answer}")
 }
 

@@ -1,5 +1,6 @@
-use Rattle.std.proofs.Common.{◌+◌, ◌-◌, true, eqb, sym, ap, ◌∙◌, arith}
+use Rattle.std.proofs.Common.{◌+◌, ◌-◌, true, false, eqb, sym, ap, ◌∙◌, arith}
 use Rattle.std.proofs.lemmas.Bool.{eq-eqb}
+use Rattle.std.specs.Option.{unwrap_or}
 use Rattle.meaning.specs.Truth.{sweep}
 use Rattle.rows.specs.Rows.{on}
 use Rattle.rows.proofs.Steps.{sweep_same}
@@ -10,7 +11,11 @@ returns-then-cells-out-eq1 c =
     let a = c.args in
     let once = c.sweep_row.ensures in
     let twice = c.sweep_row-then-cells-out-eq1.ensures in
-    let again = sym (eq-eqb _ 1 c.if-cells-out-eq1.true) ∙ once.row a.back c.if-back-m.true in
+    let F = on a.cells.now a.parts.first in
+    let G = on a.cells.now a.parts.last in
+    let again =
+    sym (eq-eqb _ 1 c.if-cells-out-eq1.true) ∙ once.row c.in-Some.back (omega (arith, c.requires.back, ap (λ o. unwrap_or o 0) c.in-Some.is))
+    ∙ sym (ap (λ o. sweep F G false (a.m - unwrap_or o a.m) (unwrap_or o a.m)) c.in-Some.is) in
     record {
       row = λ p h.
           twice.row p h

@@ -1,4 +1,4 @@
-use Rattle.std.proofs.Common.{◌-◌, ◌*◌, ◌≤◌, eqb, length, get_or, sym, ap, ◌∙◌, subst, add-zero, arith}
+use Rattle.std.proofs.Common.{rules, ◌-◌, ◌*◌, ◌≤◌, eqb, length, get_or, sym, ap, ◌∙◌, subst, add-zero, arith}
 use Rattle.std.proofs.lemmas.Bool.Decides.{Decides-at}
 use Rattle.formula.specs.View.{tree_of}
 use Rattle.formula.proofs.Views.{view_some}
@@ -17,7 +17,7 @@ fill-requires g c =
     record {
       within = omega (arith, c.len-n.ensures.value, view_some c.args.formula.now);
       below = omega (arith, w.size_is, w.last);
-      room = omega (arith, w.last, c.if-cells-needed.false, c.in-Some.ensures.1);
+      room = omega (arith, w.last, c.if-cells-needed.false, c.in_ok-needed.ensures);
     }
 
 pub returns : goal.returns
@@ -30,7 +30,7 @@ returns g c =
     let M = g.S.States.system a.states.now in
     let out = (n - 1) * m in
     let some = a.run.now.some in
-    let enough : n * m ≤ length a.cells.now = omega (arith, c.if-cells-needed.false, c.in-Some.ensures.1) in
+    let enough : n * m ≤ length a.cells.now = omega (arith, c.if-cells-needed.false, c.in_ok-needed.ensures) in
     record {
       answer = (
         subst (λ k. k * m ≤ length a.cells.now) c.len-n.ensures.value enough,
@@ -38,5 +38,5 @@ returns g c =
             (ap (λ k. eqb (get_or c.fill.new.cells k 0) 1) (sym (add-zero out)) ∙ c.fill.ensures.row 0 some ∙ ap (λ f. truth M r f 0) w.is)
             (decided M r (tree_of a.formula.now) some 0 (start r some)),
       );
-      cells = c.clear.ensures;
+      cells = search rules;
     }

@@ -1,12 +1,12 @@
 use Rattle.std.proofs.Common.{◌+◌, ◌-◌, ◌*◌, eqb, length, ap, ◌∙◌, arith, Fits-le}
 use Rattle.rows.specs.Cells.{run_of}
-use Rattle.rows.proofs.Filling.{ranged_at, leaf_stands, unary_stands, binary_stands, leaf_size, one_fits, two_some, two_fits, leaf_row, one_row, two_row}
+use Rattle.rows.proofs.Backs.{back_low}
+use Rattle.rows.proofs.Filling.{leaf_stands, unary_stands, binary_stands, leaf_size, one_fits, two_some, two_fits, leaf_row, one_row, two_row}
 use Rattle.rows.proofs.run.Run.+fill.Goals as goal
 
 pub row-requires : goal.row-requires
 row-requires g t c = record {
   rows = (leaf_stands _ c.in-True.is _ _ _ _, c.requires.room);
-  small = ranged_at c.args.formula.now _ c.entries.ensures _ c.requires.within;
 }
 
 pub overflow_sub-last : goal.overflow_sub-last
@@ -25,7 +25,6 @@ row-requires-in-Not g t c =
     let f = one_fits c.args.formula.now _ c.entries.ensures _ c.requires.within c.in-Not.is c.requires.below in
     record {
       rows = (unary_stands _ c.in-Not.is _ _ _ _ (omega (arith, f.high)), omega (arith, c.requires.room, c.fill.auto.cells));
-      small = ranged_at c.args.formula.now _ c.entries.ensures _ c.requires.within;
     }
 
 pub overflow_sub-at-in-Or : goal.overflow_sub-at-in-Or
@@ -70,7 +69,6 @@ row-requires-in-Or g t c =
     let f = two_fits c.args.formula.now _ c.entries.ensures _ c.requires.within c.in-Some.skip c.in-Or.is c.in-Some.ensures.1 c.requires.below in
     record {
       rows = (binary_stands _ _ _ _ _ (omega (arith, f.low, f.first, f.last)) (omega (arith, f.low, f.first)), omega (arith, c.requires.room, c.fill-in-Or.auto.cells, c.fill-in-Or-2.auto.cells));
-      small = ranged_at c.args.formula.now _ c.entries.ensures _ c.requires.within;
     }
 
 pub returns-in-True : goal.returns-in-True
@@ -78,7 +76,7 @@ returns-in-True g t c =
     let a = c.args in
     let m = length a.self.now.states.now in
     record {
-      row = λ p h. c.row.ensures.row p h ∙ leaf_row a.formula.now _ c.entries.ensures _ c.requires.within (g.S.States.system a.states.now) (run_of a.self.now) a.self.now.low c.in-True.is _ _ p;
+      row = λ p h. c.row.ensures.row p h ∙ leaf_row a.formula.now _ c.entries.ensures _ c.requires.within (g.S.States.system a.states.now) (run_of a.self.now) (back_low a.self.now) c.in-True.is _ _ p;
       same = λ k h. c.row.ensures.same k (omega (arith, ap (λ n. n * m) (leaf_size a.formula.now _ c.entries.ensures _ c.requires.within c.in-True.is)));
     }
 
@@ -87,7 +85,7 @@ returns-in-Not g t c =
     let a = c.args in
     let f = one_fits a.formula.now _ c.entries.ensures _ c.requires.within c.in-Not.is c.requires.below in
     record {
-      row = λ p h. c.row-in-Not.ensures.row p h ∙ one_row a.formula.now _ c.entries.ensures _ c.requires.within (g.S.States.system a.states.now) (run_of a.self.now) a.self.now.low c.in-Not.is _ _ c.fill.ensures.row c.fill.ensures.row p h;
+      row = λ p h. c.row-in-Not.ensures.row p h ∙ one_row a.formula.now _ c.entries.ensures _ c.requires.within (g.S.States.system a.states.now) (run_of a.self.now) (back_low a.self.now) c.in-Not.is _ _ c.fill.ensures.row c.fill.ensures.row p h;
       same = λ k h. c.row-in-Not.ensures.same k (omega (arith, f.all, f.high)) ∙ c.fill.ensures.same k (omega (arith, f.all, f.high));
     }
 
@@ -101,7 +99,7 @@ returns-in-Some g t c =
     record {
       row = λ p h.
           c.row-in-Or.ensures.row p h
-          ∙ two_row a.formula.now _ c.entries.ensures _ c.requires.within (g.S.States.system a.states.now) (run_of a.self.now) a.self.now.low c.in-Or.is skip c.in-Some.ensures.1 _ _
+          ∙ two_row a.formula.now _ c.entries.ensures _ c.requires.within (g.S.States.system a.states.now) (run_of a.self.now) (back_low a.self.now) c.in-Or.is skip c.in-Some.ensures.1 _ _
           (λ q lt. ap (λ x. eqb x 1) (kept (a.out - m - skip * m + q) (omega (arith, f.low, f.first, f.last, f.skip_is))) ∙ c.fill-in-Or.ensures.row q lt)
           c.fill-in-Or-2.ensures.row p h;
       same = λ k h.
