@@ -9,41 +9,20 @@ use table::table::TablePlant;
 
 const ARCS: u32 = 16;
 
-// One word for each of the arcs of some states, in their order.
-fn push_targets(words: &mut Vec<u32>, states: u32) -> Result<(), AllocError> {
-    for k in 0..states.wrapping_mul(ARCS) {
-        words.push(k.wrapping_mul(2654435761) % states.max(1))?;
-    }
-    Ok(())
-}
-
-fn push_events(words: &mut Vec<u32>, states: u32) -> Result<(), AllocError> {
-    for k in 0..states.wrapping_mul(ARCS) {
-        words.push(k % ARCS)?;
-    }
-    Ok(())
-}
-
-fn push_same(words: &mut Vec<u32>, states: u32, word: u32) -> Result<(), AllocError> {
-    for _ in 0..states {
-        words.push(word)?;
-    }
-    Ok(())
-}
-
 // A table of states with sixteen arcs each, which differ in their events.
 fn words(heap: Global, states: u32) -> Result<Vec<u32>, AllocError> {
-    let mut words = Vec::new(heap);
-    words.push(states)?;
-    words.push(ARCS)?;
-    words.push(1)?;
-    words.push(states.wrapping_mul(ARCS))?;
-    words.push(0)?;
-    push_same(&mut words, states, 5)?;
-    push_same(&mut words, states, ARCS)?;
-    push_events(&mut words, states)?;
-    push_targets(&mut words, states)?;
-    Ok(words)
+    let arcs = states.wrapping_mul(ARCS);
+    let head = [states, ARCS, 1, arcs, 0];
+    let facts = (0..states).map(|_| 5);
+    let counts = (0..states).map(|_| ARCS);
+    let events = (0..arcs).map(|k| k % ARCS);
+    let targets = (0..arcs).map(|k| k.wrapping_mul(2654435761) % states.max(1));
+    head.into_iter()
+        .chain(facts)
+        .chain(counts)
+        .chain(events)
+        .chain(targets)
+        .collect(heap)
 }
 
 fn timed_reading(rt: &HostRuntime, states: u32) -> io::Result<()> {

@@ -1,7 +1,7 @@
 -- Bytes are cut in one way alone. Assumes nothing.
-use Rattle.std.proofs.Common.{◌≡◌, ℕ, suc, ◌-◌, ◌<◌, ◌≤◌, ◌⊎◌, List, [], ◌∷◌, ◌++◌, length, get_or, take, drop, sym, refl, ap, ◌∙◌, subst, inl, inr, append_assoc, arith, length-append, take-append-drop, length-take-le, get_or-take}
+use Rattle.std.proofs.Common.{◌≡◌, ℕ, suc, ◌+◌, ◌-◌, ◌<◌, ◌≤◌, ◌⊎◌, List, [], ◌∷◌, ◌++◌, length, get_or, take, drop, sym, refl, ap, ◌∙◌, subst, inl, inr, append_assoc, arith, length-append, take-append-drop, length-take-le, get_or-take}
 use Rattle.std.proofs.ByRecursion.{All-from_get_or, All-push}
-use Rattle.std.proofs.lemmas.List.{take_all}
+use Rattle.std.proofs.lemmas.List.{take_all, drop_more, drop_all, length-drop}
 use Rattle.script.specs.Words.{Blank, Without, Dark, Behind, Skips, Cut, First}
 
 -- a list with a first element is not empty
@@ -51,6 +51,16 @@ cut_at z bs front tail rest n within solid before back behind = record {
   solid = subst (Without z) (sym before) (All-from_get_or (λ b. b ≡ z → ⊥) (take n bs) 0 (λ i lt. let less : i < n = omega (arith, length-take-le n bs within) in rw get_or-take (solid i less)));
   behind = behind;
 }
+
+-- at the first z, and where there is none
+pub cut_found : (z : ℕ) (bs : List ℕ) (n : ℕ) → n < length bs → ((k : ℕ) → k < n → get_or bs k 0 ≡ z → ⊥) → get_or bs n 0 ≡ z → Cut z bs (take n bs) (take (length bs - (n + 1)) (drop (n + 1) bs))
+cut_found z bs n within solid here =
+    let rest : take (length bs - (n + 1)) (drop (n + 1) bs) ≡ drop (n + 1) bs = take_all _ _ (omega (arith, length-drop (n + 1) bs)) in
+    cut_at z bs _ (drop n bs) _ n (omega arith) solid refl refl (subst (λ l. Behind z l (take (length bs - (n + 1)) (drop (n + 1) bs))) (sym (drop_more bs n 0 within)) (here, rest))
+
+pub cut_none : (z : ℕ) (bs : List ℕ) → ((k : ℕ) → k < length bs → get_or bs k 0 ≡ z → ⊥) → Cut z bs bs []
+cut_none z bs solid =
+    cut_at z bs bs [] [] (length bs) (omega arith) solid (sym (take_all (length bs) bs (omega arith))) (sym (drop_all (length bs) bs (omega arith))) refl
 
 -- behind the spaces at the front of one list comes one list
 same_gap : (g h x y : List ℕ) → Blank g → Blank h → Dark x → Dark y → g ++ x ≡ h ++ y → x ≡ y

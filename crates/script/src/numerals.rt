@@ -11,10 +11,7 @@ use std::alloc::{AllocError, Global};
 fn one_more(n: u32, b: u8) -> Option<u32>
     ensures { SomeIff result ((digit_value b < 10) × (n * 10 + digit_value b < 2 ^ 32)) (n * 10 + digit_value b) }
 {
-    match b {
-        b'0'..=b'9' => n.checked_mul(10)?.checked_add(u32::from(b - b'0')),
-        _ => None,
-    }
+    n.checked_mul(10)?.checked_add(char::from(b).to_digit(10)?)
 }
 
 // The number that a word of decimal digits writes, if it is below 2^32.

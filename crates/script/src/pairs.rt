@@ -7,25 +7,13 @@ ghost use Rattle.script.specs.Values.{Pair, Pairs};
 use crate::spacing::after_gap;
 use std::alloc::{AllocError, Global};
 
-// The value of a hexadecimal digit of either case.
-fn digit(b: u8) -> Option<u8>
-    ensures { SomeIff result (digit_value b < 16) (digit_value b) }
-{
-    match b {
-        b'0'..=b'9' => Some(b - b'0'),
-        b'A'..=b'F' => Some(b - b'A' + 10),
-        b'a'..=b'f' => Some(b - b'a' + 10),
-        _ => None,
-    }
-}
-
-// The byte that two hexadecimal digits write.
+// The byte that two hexadecimal digits of either case write.
 fn pair(high: u8, low: u8) -> Option<u8>
     ensures { MatchOption result ((x : ℕ) → Pair high low x → ⊥) (λ x. Pair high low x) }
 {
-    let high = digit(high)?;
-    let low = digit(low)?;
-    Some(high * 16 + low)
+    let high = char::from(high).to_digit(16)?;
+    let low = char::from(low).to_digit(16)?;
+    Some((high * 16 + low) as u8)
 }
 
 // The bytes that pairs of hexadecimal digits write, or None where `bytes` holds anything else but spaces between them.

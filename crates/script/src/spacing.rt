@@ -13,28 +13,13 @@ pub(crate) fn after_gap(bytes: &[u8]) -> &[u8]
     rest
 }
 
-// How many bytes stand before the first byte `by`.
-fn front_len(bytes: &[u8], by: u8) -> usize
-    ensures within { result ≤ length bytes.now }
-    ensures solid { (k : ℕ) → k < result → slice_index bytes.now k ≢ by }
-    ensures stops { result < length bytes.now → slice_index bytes.now result ≡ by }
-{
-    for (i, b) in bytes.iter().enumerate() {
-        if *b == by {
-            return i;
-        }
-    }
-    bytes.len()
-}
-
 // The bytes before the first byte `by`, and those behind it.
 pub(crate) fn cut(bytes: &[u8], by: u8) -> (&[u8], &[u8])
     ensures { Cut by bytes.now result.0.now result.1.now }
 {
-    let (front, tail) = bytes.split_at(front_len(bytes, by));
-    match tail {
-        [] => (front, tail),
-        [_, rest @ ..] => (front, rest),
+    match bytes.iter().position(|b| *b == by) {
+        Some(at) => (&bytes[..at], &bytes[at + 1..]),
+        None => (bytes, &[]),
     }
 }
 

@@ -1,10 +1,12 @@
-use Rattle.std.proofs.Common.{◌≡◌, ℕ, get_or, sym, ap, ◌∙◌, arith, below_more}
-use Rattle.std.proofs.lemmas.Slice.Eq.{slice_eq-Decides}
-use Rattle.script.specs.declared.calls.Word.TheVariants.{Formula}
-use Rattle.script.specs.Says.{spelled}
-use Rattle.script.proofs.Once.{place}
-use Rattle.script.proofs.reader.known_word.Goals as goal
+use Rattle.std.proofs.Common.{◌≡◌, ℕ, sym, ap, ◌∙◌, arith, below_more}
 use Rattle.std.proofs.lemmas.Bool.Decides.{Decides-eqb}
+use Rattle.std.proofs.lemmas.List.{get_or_default}
+use Rattle.std.proofs.lemmas.List.Elements.{Contains-get_or}
+use Rattle.std.proofs.lemmas.Slice.Eq.{slice_eq-Decides}
+use Rattle.script.specs.declared.calls.ListWord.TheVariants.{Formula}
+use Rattle.script.specs.declared.calls.Word.TheVariants.{List as ListOf}
+use Rattle.script.specs.Says.{spelled}
+use Rattle.script.proofs.reader.known_word.Goals as goal
 
 pub loop-word-preserved : goal.loop-word-preserved
 loop-word-preserved c =
@@ -16,9 +18,12 @@ loop-word-preserved c =
     omega arith)
 
 pub returns-then-eq : goal.returns-then-eq
-returns-then-eq c = (slice_eq-Decides Decides-eqb _ _ _ c.eq.ensures).0 c.if-eq.true ∙ c.spelling.ensures
+returns-then-eq c = (
+  Contains-get_or c.args.words.now c.loop-word.word-index (ListOf Formula) c.loop-word-test.true,
+  (slice_eq-Decides Decides-eqb _ _ _ c.eq.ensures).0 c.if-eq.true ∙ c.spelling.ensures,
+)
 
 pub returns : goal.returns
-returns c = λ w e.
-    let at = place w in
-    c.loop-word.invariant at.0 (omega (arith, at.1, c.loop-word-test.false)) (e ∙ ap spelled (sym at.2) ∙ ap (λ l. spelled (get_or l at.0 Formula)) (sym c.all-word-items.ensures))
+returns c = λ w known e.
+    c.loop-word.invariant known.0 (omega (arith, known.1, c.loop-word-test.false))
+    (e ∙ ap spelled (sym known.2 ∙ get_or_default c.args.words.now known.0 w (ListOf Formula) known.1))

@@ -1,23 +1,22 @@
-use Rattle.std.proofs.Common.{◌≡◌, ◌-◌, ◌<◌, [], length, get_or, take, drop, sym, refl, ap, ◌∙◌, subst, add-zero, arith, rules}
-use Rattle.std.proofs.lemmas.List.{nil_from_length}
-use Rattle.script.specs.Words.{Behind}
-use Rattle.script.proofs.Cuts.{cut_at, by_one}
+use Rattle.std.proofs.Common.{rules, ◌≡◌, arith}
+use borrow.Author.Tests.{tests}
+use Rattle.std.proofs.lemmas.Iterator.{IsFirst-from_position, YieldsList-from_slice}
+use Rattle.std.proofs.lemmas.Option.{MatchOption-at_some, MatchOption-at_none}
+use Rattle.script.proofs.Cuts.{cut_found, cut_none}
 use Rattle.script.proofs.spacing.cut.Goals as goal
 
-pub returns-in-empty : goal.returns-in-empty
-returns-in-empty c =
-    let told = c.front_len.ensures in
-    let parts = c.split_at.ensures in
-    let none : c.split_at.result.1.now ≡ [] = nil_from_length c.split_at.result.1.now (search rules) in
-    cut_at c.args.by _ _ c.split_at.result.1.now _ _ told.within told.solid parts.front parts.back (subst (λ l. Behind c.args.by l l) (sym none) refl)
+pub returns-in-Some : goal.returns-in-Some
+returns-in-Some c =
+    let bytes = c.args.bytes.now in
+    let found =
+    MatchOption-at_some _ _ _ c.in-Some.is
+    (IsFirst-from_position _ _ c.position.result (λ b. b ≡ c.args.by) (λ b. b ≡ c.args.by → ⊥) c.position.ensures.ran (YieldsList-from_slice bytes cc) (λ x q k. search (rules, tests)) (λ x q k. search (rules, tests))) in
+    cut_found c.args.by bytes c.in-Some.at found.0 (λ k lt e. found.2 k 0 (omega arith) lt e) (found.1 0)
 
-pub returns-in-len1-up : goal.returns-in-len1-up
-returns-in-len1-up c =
-    let told = c.front_len.ensures in
-    let parts = c.split_at.ensures in
-    let tail = c.split_at.result.1.now in
-    let rest = take (length tail - 1) (drop 1 tail) in
-    let some : 0 < length tail = search rules in
-    let space : get_or tail 0 0 ≡ c.args.by =
-    parts.by_index.2 0 0 ∙ ap (λ i. get_or c.args.bytes.now i 0) (add-zero c.front_len.result) ∙ told.stops (omega (arith, parts.back_len)) in
-    cut_at c.args.by _ _ tail _ _ told.within told.solid parts.front parts.back (subst (λ l. Behind c.args.by l rest) (sym (by_one tail c.args.by some space)) (refl, refl))
+pub returns-in-None : goal.returns-in-None
+returns-in-None c =
+    let bytes = c.args.bytes.now in
+    let none =
+    MatchOption-at_none _ _ c.in-None.is
+    (IsFirst-from_position _ _ c.position.result (λ b. b ≡ c.args.by) (λ b. b ≡ c.args.by → ⊥) c.position.ensures.ran (YieldsList-from_slice bytes cc) (λ x q k. search (rules, tests)) (λ x q k. search (rules, tests))) in
+    cut_none c.args.by bytes (λ k lt e. none k 0 (omega arith) lt e)
