@@ -1,33 +1,18 @@
-// The console: reads a script of calls from standard input, and prints an answer for each.
-// Relies on script, refusal, formula and text.
+// The console: reads a script of calls on formulas from standard input, and prints an answer for each.
+// Relies on script and replies.
 #![tactic(auto)]
 
-mod answers;
-mod state;
+mod words;
 
-use script::lines::first_line;
-use state::Console;
-use std::alloc::Global;
+use replies::lines::run;
 use std::io;
 use std::io::{BufWriter, Read, Write};
-
-// Answers the lines of a script in their order.
-fn run<W: Write>(heap: Global, script: &[u8], out: &mut W) -> io::Result<()> {
-    let mut console = Console::new();
-    let mut rest = script;
-    while let Some((line, after)) = first_line(rest) {
-        let answer = console.answer_line(heap, line)?;
-        out.write_all(answer.as_slice())?;
-        rest = after;
-    }
-    Ok(())
-}
 
 fn main(rt: HostRuntime) -> io::Result<()> {
     let heap = rt.alloc();
     let mut script = Vec::new(heap);
     rt.stdin().read_to_end(&mut script)?;
     let mut out = BufWriter::new(heap, rt.stdout())?;
-    run(heap, script.as_slice(), &mut out)?;
+    run(heap, &words::all(), script.as_slice(), &mut out)?;
     out.flush()
 }

@@ -1,4 +1,4 @@
-// The bytes of each answer that the console prints. Relies on refusal, formula, meaning and plant.
+// The bytes of each answer that a console prints, but for those that print themselves. Relies on formula and plant.
 #![tactic(auto)]
 
 pub mod formulas;

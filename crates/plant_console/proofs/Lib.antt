@@ -1,2 +1,0 @@
-pub mod Makings
-pub mod Replied

@@ -1,0 +1,24 @@
+// The words that this console knows. Relies on script's.
+ghost use Rattle.std.specs.Prelude.{◌≡◌};
+ghost use Rattle.plant_console.specs.Known.{every};
+
+use script::calls::{AloneWord, ListWord, OneWord, Word};
+
+// Every word there is, in the order in which help tells them.
+pub(crate) fn all() -> [Word; 11]
+    ensures { result ≡ every }
+{
+    [
+        Word::List(ListWord::Formula),
+        Word::Text,
+        Word::Hex,
+        Word::List(ListWord::Table),
+        Word::List(ListWord::Rule),
+        Word::Alone(AloneWord::Ask),
+        Word::One(OneWord::Initial),
+        Word::One(OneWord::Facts),
+        Word::One(OneWord::Arcs),
+        Word::Arc,
+        Word::Alone(AloneWord::Help),
+    ]
+}

@@ -1,6 +1,0 @@
-use Rattle.std.proofs.Common.{◌≡◌, ◌++◌, map, take, vec_items}
-use Rattle.printing.specs.Printed.{column_of}
-use Rattle.printing.proofs.formulas.Column.push_all.Given as goal
-
-abbrev pub invariant-loop-entry : goal.invariant-loop-entry
-invariant-loop-entry l = vec_items l.words ≡ vec_items l.initial.words ++ map (column_of l.self) (take l.entry-index l.entries)
