@@ -1,16 +1,15 @@
-// The book: 256 records, of which no two are of one state. Relies on record.
+// The book: 256 places for records, of which no two are of one state. Relies on record.
 ghost use Rattle.std.specs.Prelude.{◌≡◌, length};
-ghost use Rattle.book.specs.Records.{Apart, Few};
+ghost use Rattle.book.specs.Records.{Apart};
 
 use crate::record::Record;
 
 #[derive(Drop)]
 pub struct Book {
-    pub records: [Record; 256],
+    pub records: [Option<Record>; 256],
     // for a state's number modulo 256, a place to look at first: advice, and never trusted
     pub hints: [u8; 256],
     ghost long: { length records ≡ 256 },
     ghost advised: { length hints ≡ 256 },
     ghost apart: { Apart records },
-    ghost few: { Few records },
 }
