@@ -1,5 +1,5 @@
 -- Rows of places: what is found, added and taken away. Assumes nothing.
-use Rattle.std.proofs.Common.{◌≡◌, ℕ, zero, suc, ◌+◌, ◌<◌, ◌≤◌, Bool, true, false, cond, eqb, List, [], ◌∷◌, length, get_or, set, replicate, is_some, is_none, Some, None, Option, sym, refl, ap, ◌∙◌, ⊎_elim, arith, MatchOption, position, count_by, lt-ltb, le-ltb}
+use Rattle.std.proofs.Common.{◌≡◌, ℕ, zero, suc, ◌+◌, ◌<◌, ◌≤◌, Bool, true, false, cond, eqb, ◌≢◌, List, [], ◌∷◌, length, get_or, set, replicate, is_some, is_none, Some, None, Option, sym, refl, ap, ◌∙◌, subst, ⊎_elim, arith, MatchOption, position, count_by, lt-ltb, le-ltb}
 use Rattle.std.specs.Option.{option_map}
 use Rattle.std.specs.List.{position_or_len}
 use Rattle.std.proofs.lemmas.List.{get_or_past, get_or-set_same, get_or-set_other}
@@ -7,7 +7,7 @@ use Rattle.std.proofs.lemmas.List.Recursion.{is_count_by}
 use Rattle.std.proofs.lemmas.List.Sums.{count_by-le-length, fails_before_first, passes_at_first}
 use Rattle.std.proofs.lemmas.Bool.{cases_lt, cases_eq, cases_Bool}
 use Rattle.std.proofs.lemmas.Bool.Decides.{nat_tests}
-use Rattle.book.specs.Records.{saying_of, names, look, open_states, Holds, Apart, Adds, Drops}
+use Rattle.book.specs.Records.{saying_of, names, look, open_states, Holds, Apart, Few, Adds, Drops}
 use Rattle.book.specs.declared.record.Record.{Record}
 
 -- in a row of empty places, and past its end, nothing stands
@@ -18,6 +18,9 @@ nothing (suc n) (suc i) = nothing n i
 
 pub empty_apart : (n : ℕ) → Apart (replicate n None)
 empty_apart n s i j h = let e = rw (nothing n i) at h.0 in cc
+
+pub empty_few : (n : ℕ) → Few (replicate n None)
+empty_few n i x e = let z = sym (nothing n i) ∙ e in cc
 
 -- what is known of the first place at which a test passes, or of all where there is none
 pub first : {X : Type 0} (p : X → Bool) (xs : List X) (d : X) → MatchOption (position p xs) ((k : ℕ) → k < length xs → p (get_or xs k d) ≡ true → ⊥) (λ i. (i < length xs) × (p (get_or xs i d) ≡ true))
@@ -80,6 +83,13 @@ put_apart rs i r l f a s j k h =
     (λ (d : k ≡ i → ⊥). a s j k (at j h.0 e, at k h.1 d, h.2))
     (cases_eq k i))
     (cases_eq j i)
+
+pub put_few : (rs : List (Option Record)) (i : ℕ) (r : Record) → i < length rs → r.count ≤ 16 → Few rs → Few (set rs i (Some r))
+put_few rs i r l c f k x e =
+    ⊎_elim
+    (λ (same : k ≡ i). let at = sym (get_or-set_same rs i (Some r) None l) ∙ (λ j. get_or (set rs i (Some r)) (sym same j) None) ∙ e in let is : r ≡ x = cc in subst (λ (y : Record). y.count ≤ 16) is c)
+    (λ (other : k ≢ i). f k x (sym (get_or-set_other rs i k (Some r) None other) ∙ e))
+    (cases_eq k i)
 
 pub clear_look : (rs : List (Option Record)) (i s : ℕ) → i < length rs → Apart rs → Holds rs s i → Drops (look rs) s (look (set rs i None))
 clear_look [] i s l a h t = absurd (omega arith)

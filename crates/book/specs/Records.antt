@@ -1,6 +1,6 @@
 -- What a row of places stands for: which states are open, and what is written down of each. Relies on meaning's systems.
-use Rattle.std.specs.Prelude.{◌≡◌, ℕ, ◌<◌, Bool, true, false, cond, List, [], ◌∷◌, take, filter_map, Some, None, Option, ◌==◌, slice_index_or}
-use Rattle.std.specs.Option.{option_map}
+use Rattle.std.specs.Prelude.{◌≡◌, ℕ, ◌<◌, ◌≤◌, Bool, true, false, cond, List, [], ◌∷◌, take, filter_map, Some, None, Option, ◌==◌, slice_index_or}
+use Rattle.std.specs.Option.{option_map, ForSome}
 use Rattle.meaning.specs.declared.Arc.{Arc}
 use Rattle.meaning.specs.Systems.{System}
 use Rattle.book.specs.declared.record.Record.{Record}
@@ -39,6 +39,10 @@ Holds rs s k = names (slice_index_or rs k None) s ≡ true
 -- no two records are of one state
 abbrev pub Apart : List (Option Record) → Type 0
 Apart rs = (s i j : ℕ) → Holds rs s i × Holds rs s j × (i < j) → ⊥
+
+-- no record has more arcs than it has room for
+abbrev pub Few : List (Option Record) → Type 0
+Few rs = (i : ℕ) → ForSome (slice_index_or rs i None) (λ r. r.count ≤ 16)
 
 -- the same, and s is open too, with what is said of it
 abbrev pub Adds : (ℕ → Option Saying) → ℕ → Saying → (ℕ → Option Saying) → Type 0

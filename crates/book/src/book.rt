@@ -1,6 +1,6 @@
 // The book: 256 places for records, of which no two are of one state. Relies on record.
 ghost use Rattle.std.specs.Prelude.{◌≡◌, length};
-ghost use Rattle.book.specs.Records.{Apart};
+ghost use Rattle.book.specs.Records.{Apart, Few};
 
 use crate::record::Record;
 
@@ -12,4 +12,5 @@ pub struct Book {
     ghost long: { length records ≡ 256 },
     ghost advised: { length hints ≡ 256 },
     ghost apart: { Apart records },
+    ghost few: { Few records },
 }

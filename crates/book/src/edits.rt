@@ -1,5 +1,5 @@
 // States opened and closed. Relies on book, lookups and refusal.
-ghost use Rattle.std.specs.Prelude.{◌≡◌, ℕ, ◌<◌, true, [], length, is_some, is_none, None as Nothing, MatchBool, MatchResult, position};
+ghost use Rattle.std.specs.Prelude.{◌≡◌, ℕ, ◌<◌, ◌≤◌, true, [], length, is_some, is_none, None as Nothing, MatchBool, MatchResult, position};
 ghost use Rattle.book.specs.Records.{says, saying_of, Adds, Drops};
 ghost use Rattle.book.specs.Books.{book_of, opened, WhyNot, Refuses};
 
@@ -34,6 +34,7 @@ impl Record {
     // What a plant says of a state.
     fn of<P: Plant>(plant: &P, state: u32) -> Record
         ensures state { result.state ≡ state }
+        ensures few { result.count ≤ 16 }
         ensures said { saying_of result ≡ says (P.Plant.model plant.now).system state }
     {
         let count = plant.arc_count(state);
@@ -83,7 +84,9 @@ impl Book {
             return Err(NotAdded::Present);
         }
         let place = self.free().ok_or(NotAdded::Full)?;
-        self.records[place] = Some(Record::of(plant, state));
+        let record = Record::of(plant, state);
+        let slot = &mut self.records[place];
+        *slot = Some(record);
         self.hints[state as usize % 256] = place as u8;
         Ok(())
     }
@@ -95,7 +98,8 @@ impl Book {
         let Some(place) = self.find(state) else {
             return false;
         };
-        self.records[place] = None;
+        let slot = &mut self.records[place];
+        *slot = None;
         true
     }
 }

@@ -1,5 +1,5 @@
 // What the book says. Relies on book.
-ghost use Rattle.std.specs.Prelude.{◌≡◌, length, None as Nothing, MatchOption, position, slice_index_or, take};
+ghost use Rattle.std.specs.Prelude.{◌≡◌, length, None as Nothing, MatchOption, position, slice_index_or};
 ghost use Rattle.std.specs.Option.{option_copied, option_map};
 ghost use Rattle.book.specs.Records.{names};
 ghost use Rattle.book.specs.Books.{book_of, opened, placed, facts_of, arcs_in, PlaceOf};
@@ -13,15 +13,6 @@ fn is_of(place: &Option<Record>, state: u32) -> bool
     ensures { result ≡ names place.now state }
 {
     place.as_ref().is_some_and(|record| record.state == state)
-}
-
-impl Record {
-    // The arcs that are in use.
-    fn arcs(&self) -> &[Arc]
-        ensures { result.now ≡ take self.now.count self.now.arcs }
-    {
-        &self.arcs[..usize::from(self.count)]
-    }
 }
 
 impl Book {
@@ -68,6 +59,9 @@ impl Book {
     pub fn arcs_at(&self, place: usize) -> &[Arc]
         ensures { result.now ≡ arcs_in (placed self.now place) }
     {
-        self.at(place).map_or(&[], Record::arcs)
+        match self.at(place) {
+            Some(record) => &record.arcs[..usize::from(record.count)],
+            None => &[],
+        }
     }
 }

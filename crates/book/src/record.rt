@@ -1,6 +1,4 @@
 // One record of the book. Relies on meaning.
-ghost use Rattle.std.specs.Prelude.{◌≤◌};
-
 use meaning::Arc;
 
 // What a plant says of a state that is open.
@@ -11,5 +9,4 @@ pub struct Record {
     // how many of the arcs are in use; a count beside an array, since the book has no heap and its places are made by repetition
     pub count: u8,
     pub arcs: [Arc; 16],
-    ghost few: { count ≤ 16 },
 }

@@ -1,4 +1,4 @@
-use Rattle.std.proofs.Common.{◌≡◌, ℕ, ◌%◌, ◌<◌, cond, eqb, true, false, length, get_or, set, is_some, is_none, Some, None, Ok, Err, Option, sym, refl, ap, ◌∙◌, subst, arith, MatchOption, position, ok_or}
+use Rattle.std.proofs.Common.{◌≡◌, ℕ, ◌%◌, ◌<◌, cond, eqb, true, false, length, get_or, is_some, is_none, Some, None, Ok, Err, Option, sym, refl, ap, ◌∙◌, subst, arith, MatchOption, position, ok_or}
 use Rattle.std.proofs.lemmas.List.{length-set}
 use Rattle.std.proofs.lemmas.Result.{err_from_is_err_and}
 use Rattle.book.specs.Records.{look, Holds}
@@ -6,7 +6,7 @@ use Rattle.book.specs.Books.{book_of, opened, PlaceOf}
 use Rattle.book.specs.declared.book.Book.{Book}
 use Rattle.book.specs.declared.edits.NotAdded.{NotAdded}
 use Rattle.book.specs.declared.edits.NotAdded.TheVariants.{Full}
-use Rattle.book.proofs.Rows.{first, put_apart, put_look, room, all_open, not_held}
+use Rattle.book.proofs.Rows.{first, put_apart, put_few, put_look, room, all_open, not_held}
 use Rattle.book.proofs.book.Book.add.Goals as goal
 
 -- a state that is not found is closed
@@ -42,20 +42,21 @@ invariant_of-self g c =
     let none = closed b c.args.state c.find.result c.find.ensures (sym c.is_some.ensures ∙ c.if-is_some.false) in
     let at = free b c.free.result c.in_ok-place.place c.free.ensures (sym c.ok_or.ensures.value ∙ c.in_ok-place.was) in
     record {
-      long = length-set b.records c.in_ok-place.place (Some c.of.result) ∙ b.long;
+      long = length-set b.records c.in_ok-place.place (Some c.of-record.result) ∙ b.long;
       advised = length-set b.hints (c.args.state % 256) c.in_ok-place.place ∙ b.advised;
-      apart = put_apart b.records c.in_ok-place.place c.of.result at.0 (fresh b c.args.state c.of.result.state (sym c.of.ensures.state) none) b.apart;
+      apart = put_apart b.records c.in_ok-place.place c.of-record.result at.0 (fresh b c.args.state c.of-record.result.state (sym c.of-record.ensures.state) none) b.apart;
+      few = put_few b.records c.in_ok-place.place c.of-record.result at.0 c.of-record.ensures.few b.few;
     }
 
 pub returns : goal.returns
 returns g c =
     let b = c.args.self.now in
-    let r = c.of.result in
+    let r = c.of-record.result in
     let i = c.in_ok-place.place in
     let none = closed b c.args.state c.find.result c.find.ensures (sym c.is_some.ensures ∙ c.if-is_some.false) in
     let at = free b c.free.result i c.free.ensures (sym c.ok_or.ensures.value ∙ c.in_ok-place.was) in
-    let adds = put_look b.records i r at.0 at.1 (fresh b c.args.state r.state (sym c.of.ensures.state) none) in (
+    let adds = put_look b.records i r at.0 at.1 (fresh b c.args.state r.state (sym c.of-record.ensures.state) none) in (
       none,
       omega (arith, room b.records i at.0 at.1, b.long),
-      λ t. adds t ∙ (λ k. cond (eqb (c.of.ensures.state k) t) (Some (c.of.ensures.said k)) (look b.records t)),
+      λ t. adds t ∙ (λ k. cond (eqb (c.of-record.ensures.state k) t) (Some (c.of-record.ensures.said k)) (look b.records t)),
     )

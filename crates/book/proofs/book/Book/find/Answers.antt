@@ -1,5 +1,4 @@
-use Rattle.std.proofs.Common.{◌≡◌, ℕ, ◌<◌, length, Some, None, Option, sym, ◌∙◌, ap, arith, rules, MatchOption, position}
-use Rattle.std.proofs.lemmas.List.{get_or_default}
+use Rattle.std.proofs.Common.{◌≡◌, ℕ, ◌<◌, length, Some, None, Option, sym, ◌∙◌, arith, MatchOption}
 use Rattle.book.specs.Records.{names, Holds}
 use Rattle.book.specs.Books.{book_of, PlaceOf}
 use Rattle.book.specs.declared.book.Book.{Book}
@@ -20,11 +19,7 @@ answer b s None none = look_none b.records s none
 answer b s (Some i) found = place_of b s i found.1
 
 pub returns-then-is_of : goal.returns-then-is_of
-returns-then-is_of c =
-    let b = c.args.self.now in
-    let within : c.from-hint.result < 256 = search rules in
-    let at = get_or_default b.records c.from-hint.result c.index-self-hint.result None (omega (arith, b.long)) in
-    place_of b c.args.state c.from-hint.result (rw at at (sym c.is_of.ensures ∙ c.if-is_of.true))
+returns-then-is_of c = place_of c.args.self.now c.args.state c.from-hint.result (sym c.is_of.ensures ∙ c.if-is_of.true)
 
 pub returns : goal.returns
 returns c =

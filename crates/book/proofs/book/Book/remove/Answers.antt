@@ -1,4 +1,4 @@
-use Rattle.std.proofs.Common.{◌≡◌, set, sym, subst, arith}
+use Rattle.std.proofs.Common.{arith}
 use Rattle.book.proofs.Rows.{clear_look}
 use Rattle.book.proofs.book.Book.remove.Goals as goal
 

@@ -1,4 +1,4 @@
-use Rattle.std.proofs.Common.{◌≡◌, ◌≢◌, ℕ, zero, suc, ◌+◌, ◌<◌, ◌≤◌, List, length, get_or, take, sym, refl, ap, ◌∙◌, subst, ⊎_elim, arith, rules}
+use Rattle.std.proofs.Common.{◌≡◌, ◌≢◌, ℕ, zero, suc, ◌+◌, ◌<◌, ◌≤◌, List, length, get_or, take, sym, ◌∙◌, subst, ⊎_elim, arith, rules}
 use Rattle.std.specs.Fn.{Called}
 use Rattle.std.specs.Array.{IsFromFnResultFrom}
 use Rattle.std.proofs.lemmas.List.{ext_get_or, get_or-take, get_or_default, length-take-le}
@@ -18,6 +18,11 @@ made g f d ys P call i (suc n) each j ge lt =
     (λ (e : j ≢ i). made g f d ys P call (i + 1) n (subst (λ p. IsFromFnResultFrom g p ys (i + 1) n) here.0 each.4) j (omega arith) (omega arith))
     (cases_eq j i)
 
+pub returns-clause-few : goal.returns-clause-few
+returns-clause-few g c =
+    let law = g.P.Plant.lawful c.args.plant.now in
+    omega (arith, law.branches.0 c.args.state, law.limits.4, c.arc_count-count.ensures)
+
 pub returns-clause-said : goal.returns-clause-said
 returns-clause-said g c =
     let M = g.P.Plant.model c.args.plant.now in
@@ -28,6 +33,6 @@ returns-clause-said g c =
     let each = made _ _ no_arc c.from_fn-arcs.result (λ i y. i < n → y ≡ get_or (M.system.arcs s) i past_arc) (λ x y q k. search rules) 0 16 c.from_fn-arcs.ensures.items.each in
     let long : length (take n c.from_fn-arcs.result) ≡ n = length-take-le n c.from_fn-arcs.result (omega (arith, c.from_fn-arcs.ensures.items.long)) in
     let arcs : take n c.from_fn-arcs.result ≡ M.system.arcs s =
-      ext_get_or no_arc (take n c.from_fn-arcs.result) (M.system.arcs s) (long ∙ c.arc_count-count.ensures)
-      (λ i lt. get_or-take n c.from_fn-arcs.result i no_arc (omega arith) ∙ each i (omega arith) (omega arith) (omega arith) ∙ get_or_default (M.system.arcs s) i past_arc no_arc (omega arith)) in
+    ext_get_or no_arc (take n c.from_fn-arcs.result) (M.system.arcs s) (long ∙ c.arc_count-count.ensures)
+    (λ i lt. get_or-take n c.from_fn-arcs.result i no_arc (omega arith) ∙ each i (omega arith) (omega arith) (omega arith) ∙ get_or_default (M.system.arcs s) i past_arc no_arc (omega arith)) in
     λ k. record { facts = c.facts.ensures k; arcs = arcs k }
