@@ -21,7 +21,7 @@ loop-call-preserved g c =
       omega (arith, put.len, inv.0),
       omega (arith, inv.1, put.capacity),
       c.answer-answer.ensures.plant ∙ inv.2,
-      λ h lived. subst (Lived g.P.Plant.model c.answer-answer.new.self) (sym (more h)) (c.answer-answer.ensures.law _ (inv.3 h lived)),
+      λ h lived. subst (Lived c.answer-answer.new.self) (sym (more h)) (c.answer-answer.ensures.law _ (inv.3 h lived)),
     )
 
 pub returns : goal.returns
@@ -32,5 +32,5 @@ returns g c =
     record {
       plant = inv.2;
       each = omega (arith, c.loop-call.answers.ok.0, inv.0, c.loop-call-test.false, c.loop-call.auto.call-index-end);
-      law = λ h lived. subst (λ cs. Lived g.P.Plant.model c.loop-call.self (logged cs (vec_items c.loop-call.answers) h)) all (inv.3 h lived);
+      law = λ h lived. subst (λ cs. Lived c.loop-call.self (logged cs (vec_items c.loop-call.answers) h)) all (inv.3 h lived);
     }

@@ -9,4 +9,4 @@ invariant-loop-call g l =
     (vec_len l.answers ≡ l.call-index)
     × (length l.calls ≤ vec_capacity l.answers)
     × (l.self.plant ≡ l.initial.self.plant)
-    × ((h : List Turn) → Lived g.P.Plant.model l.initial.self h → Lived g.P.Plant.model l.self (logged (take l.call-index l.calls) (vec_items l.answers) h))
+    × ((h : List Turn) → Lived l.initial.self h → Lived l.self (logged (take l.call-index l.calls) (vec_items l.answers) h))
