@@ -50,6 +50,7 @@ impl<P: Plant> Session<P> {
         if self.walk.is_some() {
             return Err(Cause::WalkUnderWay.at(0));
         }
+        // a plant answers by count and index: there is no slice to get from
         if index >= usize::from(self.plant.initial_count()) {
             return Err(Cause::NoSuchIndex.at(0));
         }
