@@ -1,5 +1,5 @@
 -- What a book stands for. Relies on Records and refusal's causes.
-use Rattle.std.specs.Prelude.{◌≡◌, ℕ, ◌<◌, true, List, [], length, is_some, Some, None, Option, slice_index_or}
+use Rattle.std.specs.Prelude.{◌≡◌, ℕ, ◌<◌, List, [], length, IsTrue, IsSome, Some, None, Option, slice_index_or}
 use Rattle.std.specs.Option.{option_map}
 use Rattle.refusal.specs.declared.Refusal.{Refusal}
 use Rattle.refusal.specs.declared.Layer.TheVariants.{Session}
@@ -33,7 +33,7 @@ arcs_in (Some said) = said.arcs
 
 -- why a state was not added
 abbrev pub WhyNot : Book → ℕ → NotAdded → Type 0
-WhyNot b s Present = is_some (book_of b s) ≡ true
+WhyNot b s Present = IsSome (book_of b s)
 WhyNot b s Full = (book_of b s ≡ None) × (length (opened b) ≡ 256)
 
 -- the refusal of a state that was not added
@@ -44,6 +44,6 @@ Refuses Full r = Gives r 42 Session 0
 -- the record of a state stands at a place
 pub record PlaceOf (b : Book) (s i : ℕ) : Type 0 where
   pub within : i < 256
-  pub named : names (slice_index_or b.records i None) s ≡ true
+  pub named : IsTrue (names (slice_index_or b.records i None) s)
   pub found : placed b i ≡ book_of b s
-  pub known : is_some (book_of b s) ≡ true
+  pub known : IsSome (book_of b s)

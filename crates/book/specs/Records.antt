@@ -1,5 +1,5 @@
 -- What a row of places stands for: which states are open, and what is written down of each. Relies on meaning's systems.
-use Rattle.std.specs.Prelude.{◌≡◌, ℕ, ◌<◌, ◌≤◌, Bool, true, false, cond, List, [], ◌∷◌, take, filter_map, Some, None, Option, ◌==◌, slice_index_or}
+use Rattle.std.specs.Prelude.{◌≡◌, ℕ, ◌<◌, ◌≤◌, Bool, false, IsTrue, if◌then◌else◌, List, [], ◌∷◌, take, filter_map, Some, None, Option, ◌==◌, slice_index_or}
 use Rattle.std.specs.Option.{option_map, ForSome}
 use Rattle.meaning.specs.declared.Arc.{Arc}
 use Rattle.meaning.specs.Systems.{System}
@@ -26,7 +26,7 @@ names (Some r) s = r.state == s
 -- what the book says of a state, if it is open
 abbrev pub look : List (Option Record) → ℕ → Option Saying
 look [] s = None
-look (r ∷ rs) s = cond (names r s) (option_map saying_of r) (look rs s)
+look (r ∷ rs) s = if names r s then option_map saying_of r else look rs s
 
 -- the states that are open, in the order of their places
 abbrev pub open_states : List (Option Record) → List ℕ
@@ -34,7 +34,7 @@ open_states rs = filter_map (option_map (λ (r : Record). r.state)) rs
 
 -- the record at k is of the state s
 abbrev pub Holds : List (Option Record) → ℕ → ℕ → Type 0
-Holds rs s k = names (slice_index_or rs k None) s ≡ true
+Holds rs s k = IsTrue (names (slice_index_or rs k None) s)
 
 -- no two records are of one state
 abbrev pub Apart : List (Option Record) → Type 0
@@ -46,8 +46,8 @@ Few rs = (i : ℕ) → ForSome (slice_index_or rs i None) (λ r. r.count ≤ 16)
 
 -- the same, and s is open too, with what is said of it
 abbrev pub Adds : (ℕ → Option Saying) → ℕ → Saying → (ℕ → Option Saying) → Type 0
-Adds before s e after = (t : ℕ) → after t ≡ cond (s == t) (Some e) (before t)
+Adds before s e after = (t : ℕ) → after t ≡ (if s == t then Some e else before t)
 
 -- the same, but that s is closed
 abbrev pub Drops : (ℕ → Option Saying) → ℕ → (ℕ → Option Saying) → Type 0
-Drops before s after = (t : ℕ) → after t ≡ cond (s == t) None (before t)
+Drops before s after = (t : ℕ) → after t ≡ (if s == t then None else before t)

@@ -1,5 +1,5 @@
 // States opened and closed. Relies on book, lookups and refusal.
-ghost use Rattle.std.specs.Prelude.{◌≡◌, ℕ, ◌<◌, ◌≤◌, true, [], length, is_some, is_none, None as Nothing, MatchBool, MatchResult, position};
+ghost use Rattle.std.specs.Prelude.{◌≡◌, ℕ, ◌<◌, ◌≤◌, [], length, IsSome, is_none, None as Nothing, MatchBool, MatchResult, position};
 ghost use Rattle.book.specs.Records.{says, saying_of, Adds, Drops};
 ghost use Rattle.book.specs.Books.{book_of, opened, WhyNot, Refuses};
 
@@ -93,7 +93,7 @@ impl Book {
 
     // Closes a state, and tells whether it was open. Its place is free again.
     pub fn remove(&mut self, state: u32) -> bool
-        ensures { MatchBool result ((is_some (book_of self.old state) ≡ true) × Drops (book_of self.old) state (book_of self.new)) ((book_of self.old state ≡ Nothing) × (self.new ≡ self.old)) }
+        ensures { MatchBool result (IsSome (book_of self.old state) × Drops (book_of self.old) state (book_of self.new)) ((book_of self.old state ≡ Nothing) × (self.new ≡ self.old)) }
     {
         let Some(place) = self.find(state) else {
             return false;

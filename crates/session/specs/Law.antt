@@ -1,5 +1,5 @@
 -- The law of a session: how each call is answered after a history. Relies on History, plant's models and refusal's tables.
-use Rattle.std.specs.Prelude.{◌≡◌, ℕ, ◌≤◌, true, false, List, [], ◌∷◌, length, is_some, None, Option, MatchOption}
+use Rattle.std.specs.Prelude.{◌≡◌, ℕ, ◌≤◌, IsTrue, IsFalse, List, [], ◌∷◌, length, is_some, IsSome, None, Option, MatchOption}
 use Rattle.std.specs.Option.{ForSome}
 use Rattle.refusal.specs.declared.Layer.TheVariants.{Session}
 use Rattle.refusal.specs.Rows.{Row, Clear, First}
@@ -14,7 +14,7 @@ row n P = record { number = n; layer = Session; applies = λ i. P × (i ≡ 0) }
 
 -- a walk is under way
 abbrev pub Walking : List Turn → Type 0
-Walking h = is_some (walk_of h) ≡ true
+Walking h = IsSome (walk_of h)
 
 -- 256 states are open
 abbrev pub Full : List Turn → Type 0
@@ -26,12 +26,12 @@ Here h P = MatchOption (walk_of h) ⊥ P
 
 -- what is refused, in its order
 abbrev pub refusals : Model → List Turn → Asked → List Row
-refusals M h (open_state s) = row 41 (is_open h s ≡ true) ∷ row 42 (Full h) ∷ []
-refusals M h (forget s) = row 47 (Walking h) ∷ row 43 (is_open h s ≡ false) ∷ []
+refusals M h (open_state s) = row 41 (IsTrue (is_open h s)) ∷ row 42 (Full h) ∷ []
+refusals M h (forget s) = row 47 (Walking h) ∷ row 43 (IsFalse (is_open h s)) ∷ []
 refusals M h (begin i) = row 47 (Walking h) ∷ row 49 (length M.system.initial ≤ i) ∷ []
 refusals M h (step j) =
     row 48 (walk_of h ≡ None)
-    ∷ row 43 (Here h (λ s. is_open h s ≡ false))
+    ∷ row 43 (Here h (λ s. IsFalse (is_open h s)))
     ∷ row 49 (Here h (λ s. length (M.system.arcs s) ≤ j))
     ∷ []
 refusals M h leave = row 48 (walk_of h ≡ None) ∷ []

@@ -1,5 +1,5 @@
 -- When a session is what a history leaves, and what a call does to it. Relies on Law.
-use Rattle.std.specs.Prelude.{◌≡◌, false, List, ◌∷◌}
+use Rattle.std.specs.Prelude.{◌≡◌, IsFalse, List, ◌∷◌}
 use Rattle.plant.specs.declared.Plant.{Ghosts}
 use Rattle.book.specs.Books.{book_of}
 use Rattle.session.specs.History.{Asked, Told, granted, Turn, turn}
@@ -15,5 +15,5 @@ Lived {P} {D} s h = Kept (D.model s.plant) (book_of s.book) s.walk h
 -- then lived that and this turn
 pub record Takes {P : Type 0} {D : Ghosts P} (before : Session P D) (c : Asked) (t : Told) (after : Session P D) : Type 0 where
   pub plant : after.plant ≡ before.plant
-  pub refused : granted t ≡ false → after ≡ before
+  pub refused : IsFalse (granted t) → after ≡ before
   pub law : (h : List Turn) → Lived before h → Lived after (turn c t ∷ h)

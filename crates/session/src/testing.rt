@@ -1,5 +1,5 @@
 // The test of a run over the open states. Relies on session and runs.
-ghost use Rattle.std.specs.Prelude.{◌≡◌, ℕ, ◌<◌, List, length, Decides, MatchResult, slice_index};
+ghost use Rattle.std.specs.Prelude.{◌≡◌, ℕ, ◌<◌, List, length, IsTrue, ◌↔◌, MatchResult, slice_index};
 ghost use Rattle.refusal.specs.Rows.{Clear, First};
 ghost use Rattle.formula.specs.View.{entries_of, tree_of};
 ghost use Rattle.meaning.specs.Runs.{Satisfies};
@@ -21,7 +21,7 @@ impl<P: Plant> Session<P> {
         ensures law { (h : List Turn) → Lived self.now h →
             let M = P.Plant.model self.now.plant in
             let table = rows M.events (is_open h) M.system (entries_of formula.now) (run_of run.entry) (length cells.old) in
-            MatchResult result (λ yes. Clear table × Decides yes (Satisfies M.system (run_of run.entry) (tree_of formula.now))) (λ e. First table e) }
+            MatchResult result (λ yes. Clear table × (IsTrue yes ↔ Satisfies M.system (run_of run.entry) (tree_of formula.now))) (λ e. First table e) }
         ensures cells { MatchResult result (λ _. (k : ℕ) → k < length cells.new → slice_index cells.new k ≡ 0) (λ _. cells.new ≡ cells.old) }
     {
         runs::test::test(&self.plant, &self.book, formula, run, cells)
