@@ -6,6 +6,7 @@ use crate::record::Record;
 
 #[derive(Drop)]
 pub struct Book {
+    // a fixed array, made by repetition: the book has no heap
     pub records: [Option<Record>; 256],
     // for a state's number modulo 256, a place to look at first: advice, and never trusted
     pub hints: [u8; 256],

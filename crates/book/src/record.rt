@@ -6,7 +6,7 @@ use meaning::Arc;
 pub struct Record {
     pub state: u32,
     pub facts: u32,
-    // how many of the arcs are in use; a count beside an array, since the book has no heap and its places are made by repetition
+    // how many of the arcs are in use: a count beside an array, since a vector without heap cannot be repeated as a place is
     pub count: u8,
     pub arcs: [Arc; 16],
 }

@@ -32,6 +32,7 @@ impl<P: Plant> Session<P> {
         ensures law { IfOk result (λ answers. (h : List Turn) → Lived self.old h → Lived self.new (logged calls.now answers.items h)) }
     {
         let mut answers = Vec::with_capacity(heap, calls.len())?;
+        // a loop, since of a closure that changes the session a chain would tell nothing
         for call in calls {
             let answer = self.answer(*call);
             answers.push_reserved(answer);

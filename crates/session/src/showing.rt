@@ -12,7 +12,7 @@ use plant::Plant;
 
 impl<P: Plant> Session<P> {
     // The place of a state's record in the book, by which its facts and arcs are read; a closed state has none.
-    // Which place a state has is free.
+    // Which place a state has is free. A place and no reference, so that the session can be asked further meanwhile.
     pub fn show(&self, state: u32) -> Option<usize>
         ensures opened { (h : List Turn) → Lived self.now h → is_some result ≡ is_open h state }
         ensures said { IfSome result (λ i. placed self.now.book i ≡ Just (says (P.Plant.model self.now.plant).system state)) }
