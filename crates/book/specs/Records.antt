@@ -1,7 +1,8 @@
--- What a row of records stands for: which states are open, and what is written down of each. Relies on meaning's systems.
-use Rattle.std.specs.Prelude.{◌≡◌, ℕ, ◌<◌, ◌≤◌, Bool, true, false, cond, ◌&&◌, List, [], ◌∷◌, get_or, take, replicate, Some, None, Option, ◌==◌, slice_index_or}
+-- What a row of places stands for: which states are open, and what is written down of each. Relies on meaning's systems.
+use Rattle.std.specs.Prelude.{◌≡◌, ℕ, ◌<◌, ◌≤◌, Bool, false, IsTrue, if◌then◌else◌, List, [], ◌∷◌, take, filter_map, Some, None, Option, ◌==◌, slice_index_or}
+use Rattle.std.specs.Option.{option_map, ForSome}
 use Rattle.meaning.specs.declared.Arc.{Arc}
-use Rattle.meaning.specs.Systems.{System, no_arc}
+use Rattle.meaning.specs.Systems.{System}
 use Rattle.book.specs.declared.record.Record.{Record}
 
 -- what is said of one state: its facts and its arcs
@@ -17,44 +18,36 @@ says M s = record { facts = M.facts s; arcs = M.arcs s }
 abbrev pub saying_of : Record → Saying
 saying_of r = record { facts = r.facts; arcs = take r.count r.arcs }
 
--- a record that is empty
-abbrev pub empty : Record
-empty = record { «open» = false; state = 0; facts = 0; count = 0; arcs = replicate 16 no_arc }
-
--- what stands for a record past a row's end
-abbrev pub no_record : Record
-no_record = record { «open» = false; state = 0; facts = 0; count = 0; arcs = [] }
-
--- the record is open, and of the state s
-abbrev pub names : Record → ℕ → Bool
-names r s = r.«open» && r.state == s
+-- a record stands at the place, and is of the state s
+abbrev pub names : Option Record → ℕ → Bool
+names None s = false
+names (Some r) s = r.state == s
 
 -- what the book says of a state, if it is open
-abbrev pub look : List Record → ℕ → Option Saying
+abbrev pub look : List (Option Record) → ℕ → Option Saying
 look [] s = None
-look (r ∷ rs) s = cond (names r s) (Some (saying_of r)) (look rs s)
+look (r ∷ rs) s = if names r s then option_map saying_of r else look rs s
 
 -- the states that are open, in the order of their places
-abbrev pub open_states : List Record → List ℕ
-open_states [] = []
-open_states (r ∷ rs) = cond r.«open» (r.state ∷ open_states rs) (open_states rs)
+abbrev pub open_states : List (Option Record) → List ℕ
+open_states rs = filter_map (option_map (λ (r : Record). r.state)) rs
 
--- the record at k is open, and of the state s
-abbrev pub Holds : List Record → ℕ → ℕ → Type 0
-Holds rs s k = names (slice_index_or rs k no_record) s ≡ true
+-- the record at k is of the state s
+abbrev pub Holds : List (Option Record) → ℕ → ℕ → Type 0
+Holds rs s k = IsTrue (names (slice_index_or rs k None) s)
 
--- no two records are open and of one state
-abbrev pub Apart : List Record → Type 0
+-- no two records are of one state
+abbrev pub Apart : List (Option Record) → Type 0
 Apart rs = (s i j : ℕ) → Holds rs s i × Holds rs s j × (i < j) → ⊥
 
 -- no record has more arcs than it has room for
-abbrev pub Few : List Record → Type 0
-Few rs = (i : ℕ) → (get_or rs i no_record).count ≤ 16
+abbrev pub Few : List (Option Record) → Type 0
+Few rs = (i : ℕ) → ForSome (slice_index_or rs i None) (λ r. r.count ≤ 16)
 
 -- the same, and s is open too, with what is said of it
 abbrev pub Adds : (ℕ → Option Saying) → ℕ → Saying → (ℕ → Option Saying) → Type 0
-Adds before s e after = (t : ℕ) → after t ≡ cond (s == t) (Some e) (before t)
+Adds before s e after = (t : ℕ) → after t ≡ (if s == t then Some e else before t)
 
 -- the same, but that s is closed
 abbrev pub Drops : (ℕ → Option Saying) → ℕ → (ℕ → Option Saying) → Type 0
-Drops before s after = (t : ℕ) → after t ≡ cond (s == t) None (before t)
+Drops before s after = (t : ℕ) → after t ≡ (if s == t then None else before t)

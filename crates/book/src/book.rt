@@ -1,4 +1,4 @@
-// The book: 256 records, of which no two are of one state. Relies on record.
+// The book: 256 places for records, of which no two are of one state. Relies on record.
 ghost use Rattle.std.specs.Prelude.{◌≡◌, length};
 ghost use Rattle.book.specs.Records.{Apart, Few};
 
@@ -6,7 +6,8 @@ use crate::record::Record;
 
 #[derive(Drop)]
 pub struct Book {
-    pub records: [Record; 256],
+    // a fixed array, made by repetition: the book has no heap
+    pub records: [Option<Record>; 256],
     // for a state's number modulo 256, a place to look at first: advice, and never trusted
     pub hints: [u8; 256],
     ghost long: { length records ≡ 256 },

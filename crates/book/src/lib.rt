@@ -1,4 +1,4 @@
-// The book of a session: a record for each open state, in 256 places. Relies on meaning and plant.
+// The book of a session: a record for each open state, in 256 places. Relies on refusal, meaning and plant.
 #![tactic(auto)]
 
 pub mod book;

@@ -1,40 +1,34 @@
 // What the book says. Relies on book.
-ghost use Rattle.std.specs.Prelude.{◌≡◌, ℕ, ◌<◌, true, length, is_some, None as Nothing, MatchOption, slice_index_or};
-ghost use Rattle.std.specs.Option.{option_map};
-ghost use Rattle.book.specs.Records.{Holds, names, no_record};
+ghost use Rattle.std.specs.Prelude.{◌≡◌, length, None as Nothing, MatchOption, position, slice_index_or};
+ghost use Rattle.std.specs.Option.{option_copied, option_map};
+ghost use Rattle.book.specs.Records.{names};
 ghost use Rattle.book.specs.Books.{book_of, opened, placed, facts_of, arcs_in, PlaceOf};
 
 use crate::book::Book;
+use crate::record::Record;
 use meaning::Arc;
 
-impl Book {
-    // Whether the record at a place is open and of a state.
-    fn is_of(&self, place: usize, state: u32) -> bool
-        requires { place < 256 }
-        ensures { result ≡ names (slice_index_or self.now.records place no_record) state }
-    {
-        let record = &self.records[place];
-        record.open && record.state == state
-    }
+// Whether a record stands at a place, and is of a state.
+fn is_of(place: &Option<Record>, state: u32) -> bool
+    ensures { result ≡ names place.now state }
+{
+    place.as_ref().is_some_and(|record| record.state == state)
+}
 
+impl Book {
     // The place of a state's record, by looking at every place.
     fn search(&self, state: u32) -> Option<usize>
-        ensures { MatchOption result ((k : ℕ) → k < 256 → Holds self.now.records state k → ⊥) (λ i. (i < 256) × Holds self.now.records state i) }
+        ensures { result ≡ position (λ r. names r state) self.now.records }
     {
-        for i in 0..256 {
-            if self.is_of(i, state) {
-                return Some(i);
-            }
-        }
-        None
+        self.records.iter().position(|place| is_of(place, state))
     }
 
     // The place of a state's record, if the state is open. Which place a state has is free.
     pub fn find(&self, state: u32) -> Option<usize>
         ensures { MatchOption result (book_of self.now state ≡ Nothing) (λ i. PlaceOf self.now state i) }
     {
-        let hint = self.hints[(state % 256) as usize] as usize;
-        if self.is_of(hint, state) {
+        let hint = usize::from(self.hints[state as usize % 256]);
+        if is_of(&self.records[hint], state) {
             return Some(hint);
         }
         self.search(state)
@@ -44,41 +38,30 @@ impl Book {
     pub fn len(&self) -> usize
         ensures { result ≡ length (opened self.now) }
     {
-        let mut count = 0;
-        for record in &self.records {
-            if record.open {
-                count += 1;
-            }
-        }
-        count
+        self.records.iter().filter(|place| place.is_some()).count()
     }
 
-    // Whether a record stands at a place.
-    fn is_taken(&self, place: usize) -> bool
-        ensures value { result ≡ is_some (placed self.now place) }
-        ensures within { result ≡ true → place < 256 }
+    // The record at a place, if one stands there.
+    fn at(&self, place: usize) -> Option<&Record>
+        ensures { option_copied result ≡ slice_index_or self.now.records place Nothing }
     {
-        place < 256 && self.records[place].open
+        self.records.get(place)?.as_ref()
     }
 
     // The facts that stand at a place; none where no record does.
     pub fn facts_at(&self, place: usize) -> Option<u32>
         ensures { result ≡ option_map facts_of (placed self.now place) }
     {
-        if !self.is_taken(place) {
-            return None;
-        }
-        Some(self.records[place].facts)
+        self.at(place).map(|record| record.facts)
     }
 
     // The arcs that stand at a place; none where no record does.
     pub fn arcs_at(&self, place: usize) -> &[Arc]
         ensures { result.now ≡ arcs_in (placed self.now place) }
     {
-        if !self.is_taken(place) {
-            return &[];
+        match self.at(place) {
+            Some(record) => &record.arcs[..usize::from(record.count)],
+            None => &[],
         }
-        let record = &self.records[place];
-        &record.arcs[0..record.count as usize]
     }
 }

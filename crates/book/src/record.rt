@@ -1,26 +1,12 @@
-// One record of the book.
+// One record of the book. Relies on meaning.
 use meaning::Arc;
 
-// What a plant says of a state that is open; one that is not open is empty.
-#[derive(Clone, Copy)]
+// What a plant says of a state that is open.
+#[derive(Clone, Copy, Debug, PartialEq, Eq)]
 pub struct Record {
-    pub open: bool,
     pub state: u32,
     pub facts: u32,
-    // how many of the arcs are in use
+    // how many of the arcs are in use: a count beside an array, since a vector without heap cannot be repeated as a place is
     pub count: u8,
     pub arcs: [Arc; 16],
-}
-
-impl Record {
-    pub const EMPTY: Record = Record {
-        open: false,
-        state: 0,
-        facts: 0,
-        count: 0,
-        arcs: [Arc {
-            event: 0,
-            target: 0,
-        }; 16],
-    };
 }

@@ -1,5 +1,6 @@
 -- What the test of a run says over the book, it says over the plant. Relies on meaning's and refusal's theorems.
-use Rattle.std.proofs.Common.{◌≡◌, ℕ, ◌+◌, ◌-◌, ◌<◌, ◌≤◌, Bool, true, false, List, length, get_or, is_some, IfSome, Some, None, Decides, Option, sym, refl, ap, ◌∙◌, subst, inl, inr, ⊎_elim, arith}
+use Rattle.std.proofs.Common.{◌≡◌, ℕ, ◌+◌, ◌-◌, ◌<◌, ◌≤◌, Bool, true, false, List, length, get_or, is_some, Some, None, Decides, Option, sym, refl, ap, ◌∙◌, subst, inl, inr, ⊎_elim, arith}
+use Rattle.std.specs.Option.{ForSome}
 use Rattle.std.proofs.lemmas.Bool.{cases_Bool, cases_lt}
 use Rattle.refusal.specs.declared.Refusal.{Refusal}
 use Rattle.refusal.specs.Rows.{Clear, First, Lowest}
@@ -19,12 +20,12 @@ use Rattle.book.specs.declared.book.Book.{Book}
 use Rattle.runs.specs.Tests.{Wrong, start, arc, ending, Bad, rows}
 use Rattle.runs.specs.Known.{facts_in, opens, view}
 use Rattle.session.specs.History.{Turn, is_open}
-use Rattle.session.specs.Law.{Kept}
+use Rattle.session.specs.Law.{Exact, Kept}
 
 -- of what is said, and is the plant's, facts and arcs are the plant's
-said_same : (M : System) (s : ℕ) (o : Option Saying) → is_some o ≡ true → IfSome o (λ said. said ≡ says M s) → (facts_in o ≡ M.facts s) × (arcs_in o ≡ M.arcs s)
-said_same M s None known is = absurd (let z : ◌≡◌ {A = ℕ} 0 1 = cc in omega arith)
-said_same M s (Some said) known is = (ap (λ (x : Saying). x.facts) is, ap (λ (x : Saying). x.arcs) is)
+said_same : (M : System) (s : ℕ) (o : Option Saying) → is_some o ≡ true → ForSome o (λ (said : Saying). said ≡ says M s) → (facts_in o ≡ M.facts s) × (arcs_in o ≡ M.arcs s)
+said_same M s None known is = cc
+said_same M s (Some said) known is = (ap (λ (x : Saying). x.facts) (is said refl), ap (λ (x : Saying). x.arcs) (is said refl))
 
 -- two systems with the same initial states, of which one says what the other does of every open state
 record Tells (opened : ℕ → Bool) (M N : System) : Type 0 where
@@ -85,15 +86,15 @@ satisfied opened M N tells r some over f holds =
     let same : Same M N (unroll r) = λ i within. let is = over (place r i) (inside r some i within) in (tells.facts _ is, tells.arcs _ is) in
     agree M N (unroll r) same (turned M N (unroll r) same) f 0 (starts r some) holds
 
-module _ {M : Model} {h : List Turn} {walk : Option ℕ} (b : Book) (kept : Kept M (book_of b) walk h) (es : List Entry) (r : Run) (bytes : ℕ) where
+module _ {M : Model} {h : List Turn} {walk : Option ℕ} (b : Book) (exact : Exact M.system (book_of b)) (kept : Kept M (book_of b) walk h) (es : List Entry) (r : Run) (bytes : ℕ) where
   same_open : opens b ≡ is_open h
   same_open = λ i s. kept.opened s i
 
   tells : Tells (is_open h) (view b M) M.system
   tells = record {
     initial = refl;
-    facts = λ s is. (said_same M.system s (book_of b s) (kept.opened s ∙ is) (kept.exact s)).0;
-    arcs = λ s is. (said_same M.system s (book_of b s) (kept.opened s ∙ is) (kept.exact s)).1;
+    facts = λ s is. (said_same M.system s (book_of b s) (kept.opened s ∙ is) (exact s)).0;
+    arcs = λ s is. (said_same M.system s (book_of b s) (kept.opened s ∙ is) (exact s)).1;
   }
 
   pub refused_alike : (e : Refusal) → First (rows M.events (opens b) (view b M) es r bytes) e → First (rows M.events (is_open h) M.system es r bytes) e

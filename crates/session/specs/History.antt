@@ -1,5 +1,5 @@
 -- Histories: what was asked of a session and what it answered, from its beginning on. Relies on nothing but refusals.
-use Rattle.std.specs.Prelude.{◌≡◌, ℕ, ◌<◌, Bool, true, false, cond, List, [], ◌∷◌, length, Some, None, Option, ◌==◌, slice_index}
+use Rattle.std.specs.Prelude.{◌≡◌, ℕ, ◌<◌, Bool, true, false, IsTrue, if◌then◌else◌, List, [], ◌∷◌, length, Some, None, Option, ◌==◌, slice_index}
 use Rattle.refusal.specs.declared.Refusal.{Refusal}
 use Rattle.plant.specs.Model.{Distinct}
 
@@ -32,8 +32,8 @@ granted (refused r) = false
 
 -- whether s is open after a granted call, which it was or was not before
 abbrev pub opens : Asked → ℕ → Bool → Bool
-opens (open_state t) s before = cond (t == s) true before
-opens (forget t) s before = cond (t == s) false before
+opens (open_state t) s before = if t == s then true else before
+opens (forget t) s before = if t == s then false else before
 opens (begin i) s before = before
 opens (step j) s before = before
 opens leave s before = before
@@ -41,7 +41,7 @@ opens leave s before = before
 -- s is open after the history, newest turn first: the latest granted open or forget of it was an open
 abbrev pub is_open : List Turn → ℕ → Bool
 is_open [] s = false
-is_open (x ∷ h) s = cond (granted x.told) (opens x.asked s (is_open h s)) (is_open h s)
+is_open (x ∷ h) s = if granted x.told then opens x.asked s (is_open h s) else is_open h s
 
 -- the walk after a call that answers no state
 abbrev pub stays : Asked → Option ℕ → Option ℕ
@@ -65,5 +65,5 @@ walk_of (x ∷ h) = walks x.asked x.told (walk_of h)
 -- ss lists the open states, each once
 pub record Lists (h : List Turn) (ss : List ℕ) : Type 0 where
   pub apart : Distinct ss
-  pub only : (i : ℕ) → i < length ss → is_open h (slice_index ss i) ≡ true
-  pub all : (s : ℕ) → is_open h s ≡ true → (i : ℕ) × (i < length ss) × (slice_index ss i ≡ s)
+  pub only : (i : ℕ) → i < length ss → IsTrue (is_open h (slice_index ss i))
+  pub all : (s : ℕ) → IsTrue (is_open h s) → (i : ℕ) × (i < length ss) × (slice_index ss i ≡ s)

@@ -1,7 +1,9 @@
 -- The law of a session: how each call is answered after a history. Relies on History, plant's models and refusal's tables.
-use Rattle.std.specs.Prelude.{◌≡◌, ℕ, ◌≤◌, true, false, List, [], ◌∷◌, length, is_some, IfSome, None, Option, MatchOption}
+use Rattle.std.specs.Prelude.{◌≡◌, ℕ, ◌≤◌, IsTrue, IsFalse, List, [], ◌∷◌, length, is_some, IsSome, None, Option, MatchOption}
+use Rattle.std.specs.Option.{ForSome}
 use Rattle.refusal.specs.declared.Layer.TheVariants.{Session}
 use Rattle.refusal.specs.Rows.{Row, Clear, First}
+use Rattle.meaning.specs.Systems.{System}
 use Rattle.plant.specs.Model.{Model, initial_at, arc_at}
 use Rattle.book.specs.Records.{Saying, says}
 use Rattle.session.specs.History.{Asked, open_state, forget, begin, step, leave, Told, done, reached, refused, Turn, is_open, walk_of, Lists}
@@ -12,7 +14,7 @@ row n P = record { number = n; layer = Session; applies = λ i. P × (i ≡ 0) }
 
 -- a walk is under way
 abbrev pub Walking : List Turn → Type 0
-Walking h = is_some (walk_of h) ≡ true
+Walking h = IsSome (walk_of h)
 
 -- 256 states are open
 abbrev pub Full : List Turn → Type 0
@@ -24,12 +26,12 @@ Here h P = MatchOption (walk_of h) ⊥ P
 
 -- what is refused, in its order
 abbrev pub refusals : Model → List Turn → Asked → List Row
-refusals M h (open_state s) = row 41 (is_open h s ≡ true) ∷ row 42 (Full h) ∷ []
-refusals M h (forget s) = row 47 (Walking h) ∷ row 43 (is_open h s ≡ false) ∷ []
+refusals M h (open_state s) = row 41 (IsTrue (is_open h s)) ∷ row 42 (Full h) ∷ []
+refusals M h (forget s) = row 47 (Walking h) ∷ row 43 (IsFalse (is_open h s)) ∷ []
 refusals M h (begin i) = row 47 (Walking h) ∷ row 49 (length M.system.initial ≤ i) ∷ []
 refusals M h (step j) =
     row 48 (walk_of h ≡ None)
-    ∷ row 43 (Here h (λ s. is_open h s ≡ false))
+    ∷ row 43 (Here h (λ s. IsFalse (is_open h s)))
     ∷ row 49 (Here h (λ s. length (M.system.arcs s) ≤ j))
     ∷ []
 refusals M h leave = row 48 (walk_of h ≡ None) ∷ []
@@ -53,10 +55,13 @@ abbrev pub AllRight : Model → List Turn → Type 0
 AllRight M [] = Unit {0}
 AllRight M (x ∷ h) = Right M h x.asked x.told × AllRight M h
 
--- a book and a walk are what a history leaves: each of its calls was answered right, the book has the open states and no others, with
--- the plant's facts and arcs, and the walk is the history's
+-- what a book says of its open states is what the system does
+abbrev pub Exact : System → (ℕ → Option Saying) → Type 0
+Exact M book = (s : ℕ) → ForSome (book s) (λ (said : Saying). said ≡ says M s)
+
+-- a book and a walk are what a history leaves: each of its calls was answered right, the book has the open states and no others,
+-- and the walk is the history's
 pub record Kept (M : Model) (book : ℕ → Option Saying) (walk : Option ℕ) (h : List Turn) : Type 0 where
   pub right : AllRight M h
   pub opened : (s : ℕ) → is_some (book s) ≡ is_open h s
-  pub exact : (s : ℕ) → IfSome (book s) (λ said. said ≡ says M.system s)
   pub walking : walk ≡ walk_of h

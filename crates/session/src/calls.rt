@@ -1,30 +1,19 @@
 // The calls of a session, one by one: what each promises carries any history to the next. Relies on session.
-ghost use Rattle.std.specs.Prelude.{◌≡◌, List, [], ◌∷◌, OnErr};
-ghost use Rattle.session.specs.History.{Turn, turn, open_state, forget as forgets, begin as begins, step as steps, leave as leaves};
-ghost use Rattle.session.specs.Sessions.{Lived};
-ghost use Rattle.session.specs.Told.{told_done, told_state, NotOpened};
+ghost use Rattle.std.specs.Prelude.{◌≡◌, []};
+ghost use Rattle.session.specs.History.{open_state, forget as forgets, begin as begins, step as steps, leave as leaves};
+ghost use Rattle.session.specs.Sessions.{Lived, Takes};
+ghost use Rattle.session.specs.Told.{told_done, told_state};
 
 use crate::session::Session;
 use book::book::Book;
-use book::edits::NotAdded;
 use plant::Plant;
 use refusal::{Cause, Refusal};
-
-// The refusal of a state that the book did not take.
-fn not_opened(why: NotAdded) -> Refusal
-    ensures { NotOpened why result }
-{
-    match why {
-        NotAdded::Present => Cause::StateOpen.at(0),
-        NotAdded::Full => Cause::BookFull.at(0),
-    }
-}
 
 impl<P: Plant> Session<P> {
     // A session with every state closed, and no walk.
     pub fn new(plant: P) -> Session<P>
         ensures plant { result.plant ≡ plant }
-        ensures law { Lived P.Plant.model result [] }
+        ensures law { Lived result [] }
     {
         Session {
             plant,
@@ -35,21 +24,15 @@ impl<P: Plant> Session<P> {
 
     // Opens a state: writes down what the plant says of it.
     pub fn open(&mut self, state: u32) -> Result<(), Refusal>
-        ensures plant { self.new.plant ≡ self.old.plant }
-        ensures refused { OnErr result (self.new ≡ self.old) }
-        ensures law { (h : List Turn) → Lived P.Plant.model self.old h → Lived P.Plant.model self.new (turn (open_state state) (told_done result) ∷ h) }
+        ensures { Takes self.old (open_state state) (told_done result) self.new }
     {
-        match self.book.add(&self.plant, state) {
-            Ok(()) => Ok(()),
-            Err(why) => Err(not_opened(why)),
-        }
+        self.book.add(&self.plant, state)?;
+        Ok(())
     }
 
     // Forgets an open state, unless a walk is under way.
     pub fn forget(&mut self, state: u32) -> Result<(), Refusal>
-        ensures plant { self.new.plant ≡ self.old.plant }
-        ensures refused { OnErr result (self.new ≡ self.old) }
-        ensures law { (h : List Turn) → Lived P.Plant.model self.old h → Lived P.Plant.model self.new (turn (forgets state) (told_done result) ∷ h) }
+        ensures { Takes self.old (forgets state) (told_done result) self.new }
     {
         if self.walk.is_some() {
             return Err(Cause::WalkUnderWay.at(0));
@@ -62,14 +45,13 @@ impl<P: Plant> Session<P> {
 
     // Begins a walk at an initial state, which need not be open.
     pub fn begin(&mut self, index: usize) -> Result<u32, Refusal>
-        ensures plant { self.new.plant ≡ self.old.plant }
-        ensures refused { OnErr result (self.new ≡ self.old) }
-        ensures law { (h : List Turn) → Lived P.Plant.model self.old h → Lived P.Plant.model self.new (turn (begins index) (told_state result) ∷ h) }
+        ensures { Takes self.old (begins index) (told_state result) self.new }
     {
         if self.walk.is_some() {
             return Err(Cause::WalkUnderWay.at(0));
         }
-        if index >= self.plant.initial_count() as usize {
+        // a plant answers by count and index: there is no slice to get from
+        if index >= usize::from(self.plant.initial_count()) {
             return Err(Cause::NoSuchIndex.at(0));
         }
         let state = self.plant.initial(index);
@@ -79,35 +61,21 @@ impl<P: Plant> Session<P> {
 
     // Steps along an arc of the walk's state, which has to be open.
     pub fn step(&mut self, index: usize) -> Result<u32, Refusal>
-        ensures plant { self.new.plant ≡ self.old.plant }
-        ensures refused { OnErr result (self.new ≡ self.old) }
-        ensures law { (h : List Turn) → Lived P.Plant.model self.old h → Lived P.Plant.model self.new (turn (steps index) (told_state result) ∷ h) }
+        ensures { Takes self.old (steps index) (told_state result) self.new }
     {
-        let Some(state) = self.walk else {
-            return Err(Cause::NoWalk.at(0));
-        };
-        let Some(place) = self.book.find(state) else {
-            return Err(Cause::StateClosed.at(0));
-        };
+        let state = self.walk.ok_or(Cause::NoWalk.at(0))?;
+        let place = self.book.find(state).ok_or(Cause::StateClosed.at(0))?;
         let arcs = self.book.arcs_at(place);
-        if index >= arcs.len() {
-            return Err(Cause::NoSuchIndex.at(0));
-        }
-        let target = arcs[index].target;
+        let target = arcs.get(index).ok_or(Cause::NoSuchIndex.at(0))?.target;
         self.walk = Some(target);
         Ok(target)
     }
 
     // Leaves the walk.
     pub fn leave(&mut self) -> Result<(), Refusal>
-        ensures plant { self.new.plant ≡ self.old.plant }
-        ensures refused { OnErr result (self.new ≡ self.old) }
-        ensures law { (h : List Turn) → Lived P.Plant.model self.old h → Lived P.Plant.model self.new (turn leaves (told_done result) ∷ h) }
+        ensures { Takes self.old leaves (told_done result) self.new }
     {
-        if self.walk.is_none() {
-            return Err(Cause::NoWalk.at(0));
-        }
-        self.walk = None;
+        self.walk.take().ok_or(Cause::NoWalk.at(0))?;
         Ok(())
     }
 }

@@ -1,5 +1,5 @@
 // What a session shows of its book. Relies on session.
-ghost use Rattle.std.specs.Prelude.{◌≡◌, true, false, List, Some as Just, MatchOption};
+ghost use Rattle.std.specs.Prelude.{◌≡◌, List, is_some, Some as Just, IfSome};
 ghost use Rattle.std.specs.Option.{option_map};
 ghost use Rattle.book.specs.Books.{placed, facts_of, arcs_in};
 ghost use Rattle.book.specs.Records.{says};
@@ -12,9 +12,10 @@ use plant::Plant;
 
 impl<P: Plant> Session<P> {
     // The place of a state's record in the book, by which its facts and arcs are read; a closed state has none.
-    // Which place a state has is free.
+    // Which place a state has is free. A place and no reference, so that the session can be asked further meanwhile.
     pub fn show(&self, state: u32) -> Option<usize>
-        ensures { (h : List Turn) → Lived P.Plant.model self.now h → MatchOption result (is_open h state ≡ false) (λ i. (is_open h state ≡ true) × (placed self.now.book i ≡ Just (says (P.Plant.model self.now.plant).system state))) }
+        ensures opened { (h : List Turn) → Lived self.now h → is_some result ≡ is_open h state }
+        ensures said { IfSome result (λ i. placed self.now.book i ≡ Just (says (P.Plant.model self.now.plant).system state)) }
     {
         self.book.find(state)
     }

@@ -2,7 +2,7 @@
 use refusal::Refusal;
 
 // A call that changes a session, or could.
-#[derive(Clone, Copy)]
+#[derive(Clone, Copy, Debug, PartialEq, Eq)]
 pub enum Call {
     // a state
     Open(u32),
@@ -14,11 +14,13 @@ pub enum Call {
     Leave,
 }
 
-// What a call is answered.
-#[derive(Clone, Copy)]
-pub enum Answer {
+// What a call that is granted is answered.
+#[derive(Clone, Copy, Debug, PartialEq, Eq)]
+pub enum Reply {
     Done,
     // the state reached
     At(u32),
-    Refused(Refusal),
 }
+
+// What a call is answered.
+pub type Answer = Result<Reply, Refusal>;

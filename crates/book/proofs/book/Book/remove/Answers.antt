@@ -1,5 +1,4 @@
-use Rattle.std.proofs.Common.{set, sym, subst, arith}
-use Rattle.book.specs.Records.{look, Drops}
+use Rattle.std.proofs.Common.{arith}
 use Rattle.book.proofs.Rows.{clear_look}
 use Rattle.book.proofs.book.Book.remove.Goals as goal
 
@@ -7,6 +6,4 @@ pub returns : goal.returns
 returns c =
     let b = c.args.self.now in
     let at = c.in-Some.ensures in
-    let i = c.in-Some.place in
-    let drops = clear_look b.records i c.args.state (omega (arith, b.long, at.within)) b.apart at.named in
-    (at.known, subst (λ r. Drops (look b.records) c.args.state (look (set b.records i r))) (sym c.clear.ensures) drops)
+    (at.known, clear_look b.records c.in-Some.place c.args.state (omega (arith, b.long, at.within)) b.apart at.named)

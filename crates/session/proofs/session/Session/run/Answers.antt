@@ -1,5 +1,5 @@
 use Rattle.std.proofs.Common.{◌≡◌, ◌+◌, List, length, get_or, take, vec_items, sym, ◌∙◌, subst, arith}
-use Rattle.std.proofs.lemmas.List.{take_more, take_all, length-take-le}
+use Rattle.std.proofs.lemmas.List.{take_more, length-take-le}
 use Rattle.session.specs.History.{Turn}
 use Rattle.session.specs.Log.{logged}
 use Rattle.session.specs.Sessions.{Lived}
@@ -15,22 +15,12 @@ loop-call-preserved g c =
     let put = c.push_reserved.ensures in
     let call = get_or calls i (Open 0) in
     let before = vec_items c.loop-call.answers in
-    let long : length before ≡ length (take i calls) = sym c.loop-call.answers.ok.0 ∙ inv.0 ∙ sym (length-take-le i calls (omega (arith, c.loop-call-test.true))) in
+    let long : length before ≡ length (take i calls) = sym c.loop-call.answers.ok.0 ∙ inv.counted ∙ sym (length-take-le i calls (omega (arith, c.loop-call-test.true))) in
     let more : (h : List Turn) → logged (take (i + 1) calls) (vec_items c.push_reserved.new.self) h ≡ _ = λ h.
-    (λ k. logged (take_more calls i (Open 0) c.loop-call-test.true k) (put.items k) h) ∙ logged_more (take i calls) before call c.answer-answer.result h long in (
-      omega (arith, put.len, inv.0),
-      omega (arith, inv.1, put.capacity),
-      c.answer-answer.ensures.plant ∙ inv.2,
-      λ h lived. subst (Lived g.P.Plant.model c.answer-answer.new.self) (sym (more h)) (c.answer-answer.ensures.law _ (inv.3 h lived)),
-    )
-
-pub returns : goal.returns
-returns g c =
-    let calls = c.args.calls.now in
-    let inv = c.loop-call.invariant in
-    let all = take_all c.loop-call.call-index calls c.loop-call-test.false in
+    (λ k. logged (take_more calls i (Open 0) c.loop-call-test.true k) (put.items k) h) ∙ logged_more (take i calls) before call c.answer-answer.result h long in
     record {
-      plant = inv.2;
-      each = omega (arith, c.loop-call.answers.ok.0, inv.0, c.loop-call-test.false, c.loop-call.auto.call-index-end);
-      law = λ h lived. subst (λ cs. Lived g.P.Plant.model c.loop-call.self (logged cs (vec_items c.loop-call.answers) h)) all (inv.3 h lived);
+      counted = omega (arith, put.len, inv.counted);
+      room = omega (arith, inv.room, put.capacity);
+      plant = c.answer-answer.ensures.plant ∙ inv.plant;
+      law = λ h lived. subst (Lived c.answer-answer.new.self) (sym (more h)) (c.answer-answer.ensures.law _ (inv.law h lived));
     }

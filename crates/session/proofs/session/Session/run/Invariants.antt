@@ -5,8 +5,9 @@ use Rattle.session.specs.Sessions.{Lived}
 use Rattle.session.proofs.session.Session.run.Given as goal
 
 abbrev pub invariant-loop-call : goal.invariant-loop-call
-invariant-loop-call g l =
-    (vec_len l.answers ≡ l.call-index)
-    × (length l.calls ≤ vec_capacity l.answers)
-    × (l.self.plant ≡ l.initial.self.plant)
-    × ((h : List Turn) → Lived g.P.Plant.model l.initial.self h → Lived g.P.Plant.model l.self (logged (take l.call-index l.calls) (vec_items l.answers) h))
+invariant-loop-call g l = record {
+  counted : vec_len l.answers ≡ l.call-index;
+  room : length l.calls ≤ vec_capacity l.answers;
+  plant : l.self.plant ≡ l.initial.self.plant;
+  law : (h : List Turn) → Lived l.initial.self h → Lived l.self (logged (take l.call-index l.calls) (vec_items l.answers) h);
+}
