@@ -7,8 +7,6 @@ use Rattle.meaning.specs.declared.Arc.{Arc}
 use Rattle.meaning.specs.Systems.{System, no_arc}
 use Rattle.meaning.specs.Runs.{Run, places, state_at, event_at, after}
 use Rattle.runs.specs.Tests.{Closed, Wrong}
-use Rattle.runs.specs.declared.faults.Fault.{Fault}
-use Rattle.runs.specs.declared.faults.Fault.TheVariants.{OfClosed, OfWrong}
 
 -- some arc bears t and leads to s
 abbrev pub Bears : List Arc → ℕ → ℕ → Type 0
@@ -20,12 +18,7 @@ GoesOn arcs r i =
     ((after r i < places r) × Bears arcs (event_at r i) (state_at r (after r i)))
     ⊎ ((after r i ≡ places r) × (length arcs ≡ 0) × (event_at r i ≡ 64))
 
--- what is wrong at place i
-abbrev pub Faulty : (ℕ → Bool) → System → Run → ℕ → Fault → Type 0
-Faulty opened M r i OfClosed = Closed opened r i
-Faulty opened M r i OfWrong = (Closed opened r i → ⊥) × Wrong M r i
-
--- the refusal of a fault at a place
-abbrev pub Refuses : Fault → ℕ → Refusal → Type 0
-Refuses OfClosed i r = Gives r 43 Session i
-Refuses OfWrong i r = Gives r 51 Session i
+-- the refusal of place i: its state is closed, or it is open and the place is wrong
+abbrev pub Faulty : (ℕ → Bool) → System → Run → ℕ → Refusal → Type 0
+Faulty opened M r i e =
+    (Closed opened r i × Gives e 43 Session i) ⊎ ((Closed opened r i → ⊥) × Wrong M r i × Gives e 51 Session i)

@@ -1,5 +1,5 @@
 // Where lent arrays are no run over open states. Relies on book and plant.
-ghost use Rattle.std.specs.Prelude.{◌≡◌, ℕ, ◌<◌, ◌≤◌, Decides, MatchOption};
+ghost use Rattle.std.specs.Prelude.{◌≡◌, ℕ, ◌<◌, ◌≤◌, Decides, MatchOption, MatchResult};
 ghost use Rattle.refusal.specs.Rows.{Lowest};
 ghost use Rattle.meaning.specs.Systems.{Initial};
 ghost use Rattle.meaning.specs.Runs.{places};
@@ -13,27 +13,16 @@ use book::book::Book;
 use formula::entry::Entry;
 use meaning::Arc;
 use plant::Plant;
+use refusal::{Cause, Refusal};
 use rows::run::Run;
-
-// What is wrong at a place.
-#[derive(Clone, Copy)]
-pub enum Fault {
-    // its state is closed
-    OfClosed,
-    // its state is open, and the place is wrong
-    OfWrong,
-}
 
 // The lowest entry that names an event that is not below a number.
 pub(crate) fn event_beyond(entries: &[Entry], events: u8) -> Option<usize>
     ensures { MatchOption result ((i : ℕ) → Beyond events entries.now i → ⊥) (λ i. Lowest (Beyond events entries.now) i) }
 {
-    for (i, entry) in entries.iter().enumerate() {
-        if names_beyond(*entry, events) {
-            return Some(i);
-        }
-    }
-    None
+    entries
+        .iter()
+        .position(|entry| names_beyond(*entry, events))
 }
 
 fn names_beyond(entry: Entry, events: u8) -> bool
@@ -45,35 +34,21 @@ fn names_beyond(entry: Entry, events: u8) -> bool
     }
 }
 
-pub(crate) fn is_shaped(arrays: Arrays) -> bool
-    ensures { Decides result (Shaped (run_of arrays.entry)) }
+// The run that arrays write down, where they are as long as one may be.
+pub(crate) fn shaped(arrays: Arrays<'_>) -> Option<Run<'_>>
+    ensures { MatchOption result (Shaped (run_of arrays.entry) → ⊥) (λ r. Shaped (run_of arrays.entry) × (lent_run r ≡ run_of arrays.entry)) }
 {
-    let m = arrays.states.len();
-    arrays.events.len() == m && m >= 1 && m <= 3145728 && arrays.back <= m
-}
-
-// Whether a state is initial.
-fn is_initial<P: Plant>(plant: &P, state: u32) -> bool
-    ensures { Decides result (Initial (P.Plant.model plant.now).system state) }
-{
-    for i in 0..plant.initial_count() {
-        if plant.initial(i as usize) == state {
-            return true;
-        }
+    if arrays.states.len() > 3145728 {
+        return None;
     }
-    false
+    Run::new(arrays.states, arrays.events, arrays.back)
 }
 
 // Whether an arc bears an event and leads to a state.
 fn bears(arcs: &[Arc], event: u8, target: u32) -> bool
     ensures { Decides result (Bears arcs.now event target) }
 {
-    for arc in arcs {
-        if arc.event == event && arc.target == target {
-            return true;
-        }
-    }
-    false
+    arcs.contains(&Arc { event, target })
 }
 
 // Whether a place goes on along one of the arcs, or ends where there are none.
@@ -81,48 +56,54 @@ fn goes_on(arcs: &[Arc], run: &Run, place: usize) -> bool
     requires { place < places (lent_run run.now) }
     ensures { Decides result (GoesOn arcs.now (lent_run run.now) place) }
 {
-    let m = run.states.len();
-    let next = if place + 1 < m { place + 1 } else { run.back };
-    if next < m {
-        bears(arcs, run.events[place], run.states[next])
-    } else {
-        arcs.is_empty() && run.events[place] == 64
+    match run.next_place(place) {
+        Some(next) => bears(arcs, run.events[place], run.states[next]),
+        None => arcs.is_empty() && run.events[place] == 64,
     }
 }
 
-// What is wrong at a place, if anything is.
-fn fault_at<P: Plant>(plant: &P, book: &Book, run: &Run, place: usize) -> Option<Fault>
-    requires { place < places (lent_run run.now) }
-    ensures { MatchOption result (Bad (opens book.now) (view book.now (P.Plant.model plant.now)) (lent_run run.now) place → ⊥) (λ f. Faulty (opens book.now) (view book.now (P.Plant.model plant.now)) (lent_run run.now) place f) }
-{
-    let state = run.states[place];
-    let Some(at) = book.find(state) else {
-        return Some(Fault::OfClosed);
-    };
-    if place == 0 && !is_initial(plant, state) {
-        return Some(Fault::OfWrong);
-    }
-    if !goes_on(book.arcs_at(at), run, place) {
-        return Some(Fault::OfWrong);
-    }
-    None
-}
-
-// A fault, and the lowest place that has one.
+// What is known of a plant: what a book tells of it.
 #[derive(Clone, Copy)]
-pub struct Located {
-    pub fault: Fault,
-    pub place: usize,
+pub(crate) struct Known<'a, P> {
+    pub(crate) plant: &'a P,
+    pub(crate) book: &'a Book,
 }
 
-// The first fault of a run.
-pub(crate) fn first_fault<P: Plant>(plant: &P, book: &Book, run: &Run) -> Option<Located>
-    ensures { MatchOption result ((i : ℕ) → Bad (opens book.now) (view book.now (P.Plant.model plant.now)) (lent_run run.now) i → ⊥) (λ f. Lowest (Bad (opens book.now) (view book.now (P.Plant.model plant.now)) (lent_run run.now)) f.place × Faulty (opens book.now) (view book.now (P.Plant.model plant.now)) (lent_run run.now) f.place f.fault) }
-{
-    for place in 0..run.states.len() {
-        if let Some(fault) = fault_at(plant, book, run, place) {
-            return Some(Located { fault, place });
+impl<P: Plant> Known<'_, P> {
+    // Whether a state is initial. By count and index: a plant lends no slice.
+    fn is_initial(&self, state: u32) -> bool
+        ensures { Decides result (Initial (P.Plant.model self.now.plant.now).system state) }
+    {
+        for i in 0..self.plant.initial_count() {
+            if self.plant.initial(usize::from(i)) == state {
+                return true;
+            }
+        }
+        false
+    }
+
+    // The refusal of a place that is closed or wrong.
+    fn place_stands(&self, run: &Run, place: usize) -> Result<(), Refusal>
+        requires { place < places (lent_run run.now) }
+        ensures { MatchResult result (λ _. Bad (opens self.now.book.now) (view self.now.book.now (P.Plant.model self.now.plant.now)) (lent_run run.now) place → ⊥) (λ e. Faulty (opens self.now.book.now) (view self.now.book.now (P.Plant.model self.now.plant.now)) (lent_run run.now) place e) }
+    {
+        let state = run.states[place];
+        let at = self.book.find(state).ok_or(Cause::StateClosed.at(place))?;
+        let begins = place > 0 || self.is_initial(state);
+        if begins && goes_on(self.book.arcs_at(at), run, place) {
+            Ok(())
+        } else {
+            Err(Cause::NotARun.at(place))
         }
     }
-    None
+
+    // The refusal of the lowest place that is closed or wrong.
+    pub(crate) fn run_stands(&self, run: &Run) -> Result<(), Refusal>
+        ensures { MatchResult result (λ _. (i : ℕ) → Bad (opens self.now.book.now) (view self.now.book.now (P.Plant.model self.now.plant.now)) (lent_run run.now) i → ⊥) (λ e. (i : ℕ) × Lowest (Bad (opens self.now.book.now) (view self.now.book.now (P.Plant.model self.now.plant.now)) (lent_run run.now)) i × Faulty (opens self.now.book.now) (view self.now.book.now (P.Plant.model self.now.plant.now)) (lent_run run.now) i e) }
+    {
+        for place in 0..run.states.len() {
+            self.place_stands(run, place)?;
+        }
+        Ok(())
+    }
 }

@@ -1,32 +1,18 @@
 // The test of a formula on a run over open states. Relies on faults and rows.
 ghost use Rattle.std.specs.Prelude.{◌≡◌, ℕ, ◌<◌, length, Decides, MatchResult, slice_index};
-ghost use Rattle.refusal.specs.Causes.{Gives};
 ghost use Rattle.refusal.specs.Rows.{Clear, First};
 ghost use Rattle.formula.specs.View.{entries_of, tree_of};
 ghost use Rattle.meaning.specs.Runs.{Satisfies};
 ghost use Rattle.runs.specs.Tests.{rows};
 ghost use Rattle.runs.specs.Known.{opens, view, run_of};
-ghost use Rattle.runs.specs.Faults.{Refuses};
 
 use crate::arrays::Arrays;
-use crate::faults::{Fault, Located, event_beyond, first_fault, is_shaped};
+use crate::faults::{Known, event_beyond, shaped};
 use crate::states::OpenStates;
 use book::book::Book;
 use formula::formula::Formula;
 use plant::Plant;
 use refusal::{Cause, Refusal};
-use rows::run::Run;
-
-impl Located {
-    fn refusal(self) -> Refusal
-        ensures { Refuses self.fault self.place result }
-    {
-        match self.fault {
-            Fault::OfClosed => Cause::StateClosed.at(self.place),
-            Fault::OfWrong => Cause::NotARun.at(self.place),
-        }
-    }
-}
 
 // Yes exactly when the run satisfies the formula in the system that the book tells of; or the first refusal.
 // Granted, every byte that was lent is 0; refused, they are as they were.
@@ -43,24 +29,7 @@ pub fn test<P: Plant>(
     if let Some(entry) = event_beyond(formula.entries(), plant.events()) {
         return Err(Cause::EventBeyond.at(entry));
     }
-    if !is_shaped(arrays) {
-        return Err(Cause::RunShape.at(0));
-    }
-    let Arrays {
-        states,
-        events,
-        back,
-    } = arrays;
-    let run = Run {
-        states,
-        events,
-        back,
-    };
-    if let Some(located) = first_fault(plant, book, &run) {
-        return Err(located.refusal());
-    }
-    match rows::test::test(&OpenStates { book }, &run, formula, cells) {
-        Some(yes) => Ok(yes),
-        None => Err(Cause::WorkspaceShort.at(0)),
-    }
+    let run = shaped(arrays).ok_or(Cause::RunShape.at(0))?;
+    Known { plant, book }.run_stands(&run)?;
+    rows::test::test(&OpenStates { book }, &run, formula, cells).ok_or(Cause::WorkspaceShort.at(0))
 }

@@ -1,8 +1,0 @@
-use Rattle.std.proofs.Common.{ℕ, ◌<◌}
-use Rattle.rows.specs.Cells.{run_of}
-use Rattle.runs.specs.Tests.{Bad}
-use Rattle.runs.specs.Known.{opens, view}
-use Rattle.runs.proofs.faults.first_fault.Given as goal
-
-abbrev pub invariant-loop-place : goal.invariant-loop-place
-invariant-loop-place g l = (j : ℕ) → j < l.place → Bad (opens l.book) (view l.book (g.P.Plant.model l.plant)) (run_of l.run) j → ⊥
