@@ -4,7 +4,7 @@ use Rattle.std.proofs.lemmas.Bool.{cases_lt}
 use Rattle.refusal.specs.Rows.{Lowest}
 use Rattle.table.specs.Words.{state_count, event_count, initial_count, arc_count, at_facts, at_counts, at_events, at_targets, part, initials, facts, counts, events, targets}
 use Rattle.table.specs.Refused.{least, most, Beyond, OutOfRange, initial, count, event, target}
-use Rattle.table.specs.Sections.{Measured, FirstBeyond}
+use Rattle.table.specs.Measured.{Measured, FirstBeyond}
 use Rattle.table.proofs.Lookups.{part_long, part_at}
 
 -- the sections are as long as the counts say

@@ -1,8 +1,7 @@
--- The words cut into their arrays, and the rules that they keep one after another. Relies on Words and Refused.
-use Rattle.std.specs.Prelude.{◌≡◌, ℕ, ◌^◌, ◌<◌, ◌≤◌, List, length, sum, slice_index, slice_index_or}
-use Rattle.table.specs.Words.{arc_count, size, initials, facts, counts, events, targets}
+-- The rules that the words of a table keep one after another, and what the searches among them find. Relies on Words and Refused.
+use Rattle.std.specs.Prelude.{◌≡◌, ℕ, ◌^◌, ◌<◌, ◌≤◌, Bool, true, false, List, length, Option, MatchOption, sum, slice_index, slice_index_or}
+use Rattle.table.specs.Words.{arc_count, size, counts}
 use Rattle.table.specs.Refused.{OffLimits, OutOfRange, Repeated}
-use Rattle.table.specs.declared.sections.Sections.{Sections}
 
 -- S, E, I and A are within their limits, and there are as many words as they say, each of 32 bits
 pub record Measured (ws : List ℕ) : Type 0 where
@@ -18,16 +17,6 @@ pub record Kept (ws : List ℕ) : Type 0 where
   pub adds : sum (counts ws) ≡ arc_count ws
   pub apart : (i : ℕ) → Repeated ws i → ⊥
 
--- the sections are the arrays of the words ws
-pub record Cut (ws : List ℕ) (t : Sections) : Type 0 where
-  pub measured : Measured ws
-  pub words : t.words.now ≡ ws
-  pub initial : t.initial.now ≡ initials ws
-  pub facts : t.facts.now ≡ facts ws
-  pub counts : t.counts.now ≡ counts ws
-  pub events : t.events.now ≡ events ws
-  pub targets : t.targets.now ≡ targets ws
-
 -- k is the lowest place whose word is not below the limit
 pub record FirstBeyond (ws : List ℕ) (limit k : ℕ) : Type 0 where
   pub within : k < length ws
@@ -40,3 +29,15 @@ pub record Again {X : Type 0} (xs : List X) (k : ℕ) : Type 0 where
   pub earlier : ℕ
   pub before : earlier < k
   pub same : (d : X) → slice_index_or xs earlier d ≡ slice_index_or xs k d
+
+-- k is the lowest of count places that is the same as one before it; `says j k b` where b was answered to whether j and k are the same
+pub record FirstSame (says : ℕ → ℕ → Bool → Type 0) (count k : ℕ) : Type 0 where
+  pub within : k < count
+  pub earlier : ℕ
+  pub before : earlier < k
+  pub same : says earlier k true
+  pub none_below : (i j : ℕ) → i < j → j < k → says i j false
+
+-- what a search for it found: such a place, or `None` where no two are the same
+pub record Searched (says : ℕ → ℕ → Bool → Type 0) (count : ℕ) (found : Option ℕ) : Type 0 where
+  pub answer : MatchOption found ((j k : ℕ) → j < k → k < count → says j k false) (FirstSame says count)
