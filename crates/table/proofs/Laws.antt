@@ -1,8 +1,7 @@
 -- Words that keep every rule mean a lawful plant, and the parts read from them stand for it.
 -- Relies on Lookups, Paired, Ranges and Apart.
-use Rattle.std.proofs.Common.{◌≡◌, ℕ, zero, suc, ◌+◌, ◌-◌, ◌^◌, ◌<◌, ◌≤◌, max, List, [], ◌∷◌, length, get_or, vec_items, vec_len, fold, sym, ap, ◌∙◌, subst, ⊎_elim, arith}
+use Rattle.std.proofs.Common.{◌≡◌, ℕ, zero, suc, ◌+◌, ◌^◌, ◌<◌, ◌≤◌, max, List, [], ◌∷◌, length, get_or, vec_items, fold, sym, ap, ◌∙◌, subst, ⊎_elim, arith}
 use Rattle.std.proofs.lemmas.List.{get_or_past}
-use Rattle.std.proofs.lemmas.List.Sums.{sum_by-take-le}
 use Rattle.std.proofs.lemmas.Bool.{cases_lt}
 use Rattle.refusal.specs.Rows.{Clear}
 use Rattle.meaning.specs.declared.Arc.{Arc}
@@ -20,7 +19,7 @@ use Rattle.table.specs.declared.parts.Parts.{Parts}
 use Rattle.table.proofs.Lookups.{part_at, part_short, part_inside}
 use Rattle.table.proofs.Paired.{arc, get_d_paired}
 use Rattle.table.proofs.Ranges.{long_initials, long_facts, long_counts, long_events, long_targets, at_least, at_most, low_initials, low_counts, low_events, low_targets}
-use Rattle.table.proofs.Apart.{before, before_le, before_more, long_arcs, distinct_initials, distinct_arcs}
+use Rattle.table.proofs.Apart.{before, long_arcs, distinct_initials, distinct_arcs}
 
 pub clear : {ws : List ℕ} → Kept ws → Clear (rows ws)
 clear k = (

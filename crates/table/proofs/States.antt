@@ -1,9 +1,8 @@
 -- The states that are read one after another, and the places of their arcs. Relies on Apart, Ranges and Lookups.
-use Rattle.std.proofs.Common.{◌≡◌, ℕ, zero, suc, ◌+◌, ◌-◌, ◌<◌, ◌≤◌, List, [], ◌∷◌, ◌++◌, Some, None, Option, length, get_or, slice_get, take, drop, vec_items, sum, sym, refl, ap, ◌∙◌, subst, ⊎_elim, arith}
+use Rattle.std.proofs.Common.{◌≡◌, ℕ, zero, suc, ◌+◌, ◌-◌, ◌<◌, ◌≤◌, List, [], ◌∷◌, ◌++◌, Some, length, get_or, slice_get, drop, sum, sym, refl, ap, ◌∙◌, ⊎_elim, arith}
 use Rattle.std.proofs.lemmas.List.{drop_more, drop_all, length-append, get_or_default}
 use Rattle.std.proofs.lemmas.Bool.{cases_lt}
 use Rattle.std.specs.Option.{option_map_or}
-use Rattle.meaning.specs.declared.Arc.{Arc}
 use Rattle.table.specs.declared.parts.State.{State}
 use Rattle.std.specs.List.{All}
 use Rattle.table.specs.Words.{state_count, arc_count, counts, events, part, paired, all_arcs, arcs_of}

@@ -1,4 +1,4 @@
-use Rattle.std.proofs.Common.{◌≡◌, ℕ, ◌<◌, true, false, rules, refl}
+use Rattle.std.proofs.Common.{ℕ, ◌<◌, true, false, rules, refl}
 use native.Mathlib.Nat.{sub-zero}
 use Rattle.std.proofs.lemmas.Iterator.{first_from_find, YieldsList-from_range}
 use Rattle.table.proofs.Repeats.{first_below}

@@ -1,4 +1,4 @@
-use Rattle.std.proofs.Common.{◌≡◌, sym, refl, ap, ◌∙◌, get_or, rules, tests, arith}
+use Rattle.std.proofs.Common.{sym, rules, tests, arith}
 use Rattle.meaning.specs.Systems.{no_arc}
 use Rattle.table.specs.Words.{paired}
 use Rattle.table.proofs.Paired.{length_paired, same_arcs, same_parts}

@@ -1,4 +1,4 @@
-use Rattle.std.proofs.Common.{◌≡◌, ℕ, ◌<◌, true, false, rules, refl}
+use Rattle.std.proofs.Common.{true, false, rules, refl}
 use native.Mathlib.Nat.{sub-zero}
 use Rattle.std.proofs.lemmas.Iterator.{cases_from_any, serves_from_Range, YieldsList-from_range}
 use Rattle.table.proofs.Repeats.{any_below}

@@ -1,4 +1,4 @@
-use Rattle.std.proofs.Common.{◌≡◌, ◌+◌, ◌≤◌, List, length, sym, ap, ◌∙◌, take, drop, arith, rules}
+use Rattle.std.proofs.Common.{◌≡◌, sym, ap, ◌∙◌, take, drop, arith}
 use Rattle.std.proofs.lemmas.List.{take_rest, take_all, length-drop, drop-drop}
 use Rattle.table.specs.Words.{state_count, initial_count, arc_count, at_facts, at_counts, at_events, at_targets}
 use Rattle.table.proofs.sections.Sections.cut.Goals as goal

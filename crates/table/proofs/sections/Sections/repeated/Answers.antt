@@ -1,13 +1,13 @@
-use Rattle.std.proofs.Common.{◌≡◌, ℕ, ◌+◌, ◌-◌, ◌*◌, ◌<◌, ◌≤◌, length, get_or, take, drop, sum, sym, refl, ap, ◌∙◌, subst, arith, below_more}
+use Rattle.std.proofs.Common.{◌≡◌, ℕ, ◌+◌, ◌-◌, ◌*◌, ◌<◌, length, get_or, sum, refl, ap, subst, arith, below_more}
 use Rattle.refusal.specs.Rows.{Lowest}
 use Rattle.plant.specs.Model.{Distinct}
-use Rattle.table.specs.Words.{state_count, arc_count, at_events, part, counts, paired, all_arcs, arcs_of}
+use Rattle.table.specs.Words.{arc_count, at_events, part, counts, paired, arcs_of}
 use Rattle.table.specs.Refused.{Repeated}
 use Rattle.table.specs.Measured.{Again}
 use Rattle.table.specs.declared.sections.Sections.{Sections}
 use Rattle.table.proofs.Apart.{before, lowest_arc, lowest_initial, none_repeated}
 use Rattle.table.proofs.Ranges.{long_counts, long_events}
-use Rattle.table.proofs.States.{state, within, more, small, parallel, inside, same_length, arcs_are, among}
+use Rattle.table.proofs.States.{state, within, more, small, inside, same_length, arcs_are, among}
 use Rattle.table.proofs.sections.Sections.repeated.Goals as goal
 
 -- where the events begin
