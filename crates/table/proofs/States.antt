@@ -20,28 +20,6 @@ next xs n x ys left =
     (λ ge. let none = drop_all n xs ge in absurd (cc))
     (cases_lt n (length xs))
 
--- an element pushed, and those before it
-push_before : {X : Type 0} (xs : List X) (x : X) (i : ℕ) → i < length xs → slice_get (xs ++ x ∷ []) i ≡ slice_get xs i
-push_before [] x i lt = absurd (omega arith)
-push_before (y ∷ xs) x zero lt = refl
-push_before (y ∷ xs) x (suc i) lt = push_before xs x i (omega arith)
-
-push_last : {X : Type 0} (xs : List X) (x : X) (i : ℕ) → i ≡ length xs → slice_get (xs ++ x ∷ []) i ≡ Some x
-push_last [] x i is = ap (slice_get (x ∷ [])) is
-push_last (y ∷ xs) x zero is = absurd (omega arith)
-push_last (y ∷ xs) x (suc i) is = push_last xs x i (omega arith)
-
--- what is told of each state and holds of the one pushed too, holds of all
-pub one_more : {A : Type 0} (f : State → A) (d : A) (g : ℕ → A) (states : List State) (state : State) → ((s : ℕ) → s < length states → option_map_or f (slice_get states s) d ≡ g s) → f state ≡ g (length states)
-    → (s : ℕ) → s < length (states ++ state ∷ []) → option_map_or f (slice_get (states ++ state ∷ []) s) d ≡ g s
-one_more f d g states state before here s lt =
-    ⊎_elim
-    (λ low. ap (λ o. option_map_or f o d) (push_before states state s low) ∙ before s low)
-    (λ high.
-    let is : s ≡ length states = omega (arith, length-append states (state ∷ [])) in
-    ap (λ o. option_map_or f o d) (push_last states state s is) ∙ here ∙ ap g (sym is))
-    (cases_lt s (length states))
-
 -- the turn of a loop over the states for state n, which has so many arcs, with the arcs of the lower states before them
 module _ (t : Sections) (adds : sum (counts t.words.now) ≡ arc_count t.words.now) (n from count : ℕ) (lt : n < length t.counts.now) (own : count ≡ get_or t.counts.now n 0) (is : from ≡ before t.words.now n) where
   pub state : n < state_count t.words.now

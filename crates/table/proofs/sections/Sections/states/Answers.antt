@@ -1,12 +1,13 @@
 use Rattle.std.proofs.Common.{◌≡◌, ℕ, ◌+◌, ◌<◌, ◌≤◌, List, [], ◌∷◌, length, get_or, take, drop, vec_items, sum, sym, ap, ◌∙◌, subst, ⊎_elim, arith, rules}
 use Rattle.std.proofs.lemmas.Slice.Zip.{Zip-more, either_empty_from_Zip}
 use Rattle.std.proofs.lemmas.List.{length-append, length-drop}
+use Rattle.plant.proofs.Pushed.{one_more}
 use Rattle.table.specs.Words.{state_count, facts, counts, arcs_of}
 use Rattle.table.specs.Parts.{facts_at, arcs_at}
 use Rattle.table.specs.declared.parts.State.{State}
 use Rattle.table.specs.declared.sections.Sections.{Sections}
 use Rattle.table.proofs.Ranges.{long_facts, long_counts}
-use Rattle.table.proofs.States.{next, one_more, more, inside, arcs_are, low_part}
+use Rattle.table.proofs.States.{next, more, inside, arcs_are, low_part}
 use Rattle.table.proofs.sections.Sections.states.Goals as goal
 
 -- the count of the turn is the next of the words' counts
