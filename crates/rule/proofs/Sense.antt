@@ -148,12 +148,6 @@ granted ws p shaped native reads =
       lawful = lawful p (few ws p shaped reads) (ranged ws p shaped reads native);
     }
 
-pub by_shape : (ws : List ℕ) (r : Refusal) → (Shaped ws → ⊥) → Gives r 35 Plant 0 → First (rows ws) r
-by_shape ws r h g = inl (0, (h, refl), g)
-
-pub by_value : (ws : List ℕ) (r : Refusal) (i : ℕ) → Shaped ws → Lowest (Foreign ws) i → Gives r 36 Plant i → First (rows ws) r
-by_value ws r i shaped l g = inr ((λ j f. f.0 shaped), inl (i, l, g))
-
 -- a refusal by a row is the only one, and there is none where the words are clear
 pub one : (ws : List ℕ) (d e : Refusal) → First (rows ws) d → First (rows ws) e → d ≡ e
 one ws d e h k = one_refusal (rows ws) (one_fails, (one_lowest, tt)) d e h k

@@ -26,9 +26,7 @@ pub struct Sections<'a> {
 }
 
 // The least and the most of S, E, I and A.
-const LEAST: [u32; 4] = [1, 1, 0, 0];
-
-const MOST: [u32; 4] = [4096, 64, 16, 65536];
+const LIMITS: [(u32, u32); 4] = [(1, 4096), (1, 64), (0, 16), (0, 65536)];
 
 // The lowest of the first four words that is outside its limits.
 fn off_limits(words: &[u32]) -> Option<usize>
@@ -37,7 +35,7 @@ fn off_limits(words: &[u32]) -> Option<usize>
 {
     words
         .iter()
-        .zip(LEAST.iter().zip(MOST.iter()))
+        .zip(LIMITS.iter())
         .position(|(word, (least, most))| *word < *least || *word > *most)
 }
 
