@@ -1,11 +1,9 @@
 -- Words that no row refuses: the parts read of them are within their bounds, and make the model that they mean. Relies on Tied and Spots.
-use Rattle.std.proofs.Common.{◌≡◌, ℕ, ◌+◌, ◌*◌, ◌/◌, ◌%◌, ◌^◌, ◌<◌, ◌≤◌, cond, not, eqb, ltb, List, [], ◌∷◌, length, get_or, drop, Some, None, Decides, sym, refl, ap, ◌∙◌, subst, inl, inr, ⊎_elim, add-mul, arith}
+use Rattle.std.proofs.Common.{◌≡◌, ℕ, ◌+◌, ◌*◌, ◌/◌, ◌%◌, ◌^◌, ◌<◌, ◌≤◌, cond, not, eqb, ltb, List, [], ◌∷◌, length, get_or, drop, Some, None, Decides, sym, refl, ap, ◌∙◌, subst, ⊎_elim, add-mul, arith}
 use Rattle.std.specs.List.{range_with_len, flat_map}
 use Rattle.std.proofs.lemmas.List.{length-take-le, length-drop, length-map, get_or-map, get_or-take, get_or-drop}
 use Rattle.std.proofs.lemmas.Bool.{cases_lt, cases_Bool, cond-true, cond-false, eqb-false, lt-ltb}
-use Rattle.refusal.specs.Causes.{Gives}
-use Rattle.refusal.specs.Rows.{Clear, First, Lowest}
-use Rattle.refusal.specs.declared.Layer.TheVariants.{Plant}
+use Rattle.refusal.specs.Rows.{Clear, First}
 use Rattle.refusal.specs.declared.Refusal.{Refusal}
 use Rattle.refusal.proofs.Settled.{one_refusal, not_both, one_lowest, one_fails}
 use Rattle.guarded.specs.declared.Parts.{Parts}

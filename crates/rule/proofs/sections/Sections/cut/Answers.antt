@@ -7,9 +7,6 @@ use Rattle.rule.proofs.sections.Sections.cut.Goals as goal
 rows : (c : goal.After-sets-1) → c.split_at.result.1.now ≡ drop (2 + variables c.args.words.now) c.args.words.now
 rows c = c.split_at.ensures.back ∙ ap (drop (variables c.args.words.now)) (take_rest c.args.words.now 2) ∙ drop-drop (variables c.args.words.now) 2 c.args.words.now
 
-pub invariant_of-result-clause-by_sizes : goal.invariant_of-result-clause-by_sizes
-invariant_of-result-clause-by_sizes c = c.split_at.ensures.front ∙ ap (take (variables c.args.words.now)) (take_rest c.args.words.now 2)
-
 pub invariant_of-result-clause-by_needs : goal.invariant_of-result-clause-by_needs
 invariant_of-result-clause-by_needs c = c.split_at-2.ensures.front ∙ ap (take (rules_in c.args.words.now * variables c.args.words.now)) (rows c)
 
@@ -26,7 +23,7 @@ invariant_of-result-clause-shaped c =
     let few : (1 ≤ variables ws) × (variables ws ≤ 8) = search (rules, tests) in
     let few_rules : (1 ≤ rules_in ws) × (rules_in ws ≤ 16) = search (rules, tests) in
     let each = c.if-not-sized.ensures.0 refl in
-    let by_sizes = invariant_of-result-clause-by_sizes c in
+    let by_sizes = c.split_at.ensures.front ∙ ap (take (variables ws)) (take_rest ws 2) in
     record {
       some_variables = few.0;
       few_variables = few.1;

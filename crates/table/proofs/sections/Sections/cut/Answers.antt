@@ -16,9 +16,6 @@ events c = c.split_at-3.ensures.back ∙ ap (drop (state_count c.args.words.now)
 targets : (c : goal.After-targets-1) → c.split_at-4.result.1.now ≡ drop (at_targets c.args.words.now) c.args.words.now
 targets c = c.split_at-4.ensures.back ∙ ap (drop (arc_count c.args.words.now)) (events c) ∙ drop-drop (arc_count c.args.words.now) (at_events c.args.words.now) c.args.words.now
 
-pub invariant_of-result-clause-by_initial : goal.invariant_of-result-clause-by_initial
-invariant_of-result-clause-by_initial c = c.split_at.ensures.front ∙ ap (take (initial_count c.args.words.now)) (take_rest c.args.words.now 4)
-
 pub invariant_of-result-clause-by_facts : goal.invariant_of-result-clause-by_facts
 invariant_of-result-clause-by_facts c = c.split_at-2.ensures.front ∙ ap (take (state_count c.args.words.now)) (arrays c)
 
