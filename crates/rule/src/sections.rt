@@ -1,8 +1,8 @@
-// A rule plant's words, cut into their parts. Relies on refusal.
-ghost use Rattle.std.specs.Prelude.{◌≡◌, ℕ, ◌*◌, take, drop, Decides, MatchOption};
+// A rule plant's words, cut into their parts. Relies on guarded and refusal.
+ghost use Rattle.std.specs.Prelude.{◌≡◌, ℕ, Decides, MatchOption};
 ghost use Rattle.refusal.specs.Rows.{Lowest};
 ghost use Rattle.guarded.specs.Values.{Sized};
-ghost use Rattle.rule.specs.Words.{variables as variables_in, sizes as sizes_in, all_needs, all_sets, Shaped, Foreign};
+ghost use Rattle.rule.specs.Words.{sizes as sizes_in, all_needs, all_sets, Shaped, Foreign};
 
 // The words are shaped as they say, and these are their parts.
 #[derive(Clone, Copy)]

@@ -2,7 +2,7 @@
 ghost use Rattle.std.specs.Prelude.{◌≡◌, ◌≤◌, [], ◌∷◌, length, MatchOption};
 ghost use Rattle.guarded.specs.Values.{extent_of, values_of, number_of, facts_of, meets, after, Sized, Ranged};
 
-// The sizes of some variables.
+// The sizes of at most 8 variables, each 1 to 16.
 #[derive(Clone, Copy)]
 pub(crate) struct Sizes<'a> {
     pub(crate) sizes: &'a [u8],

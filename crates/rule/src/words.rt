@@ -7,7 +7,6 @@ ghost use Rattle.refusal.specs.declared.Refusal.{Refusal as Given};
 ghost use Rattle.plant.specs.Making.{Failed};
 ghost use Rattle.plant.specs.declared.Failure.TheVariants.{Refused};
 ghost use Rattle.guarded.specs.Made.{model_of};
-ghost use Rattle.guarded.specs.Values.{Sized};
 ghost use Rattle.rule.specs.Words.{Foreign, rows};
 ghost use Rattle.rule.specs.Read.{Ruled, Reads, Granted, value_in};
 

@@ -1,5 +1,5 @@
 // The rules on what the arrays of a table plant hold. Relies on sections.
-ghost use Rattle.std.specs.Prelude.{◌≡◌, ℕ, ◌+◌, ◌^◌, ◌<◌, ◌≤◌, List, true, false, length, Decides, sum, MatchOption, MatchResult, MatchBool, slice_index};
+ghost use Rattle.std.specs.Prelude.{◌≡◌, ℕ, ◌+◌, ◌^◌, ◌<◌, ◌≤◌, true, false, length, Decides, sum, MatchOption, MatchResult, MatchBool, slice_index};
 ghost use Rattle.refusal.specs.Rows.{First, Lowest};
 ghost use Rattle.plant.specs.Model.{Distinct};
 ghost use Rattle.table.specs.Words.{arc_count, counts as counts_of, paired};
