@@ -1,21 +1,10 @@
 -- Lists of arcs that rules give one by one: their order, and what holds of each. Assumes nothing.
-use Rattle.std.proofs.Common.{◌≡◌, ℕ, zero, suc, ◌+◌, ◌<◌, ◌≤◌, Bool, cond, List, [], ◌∷◌, ◌++◌, length, get_or, sym, refl, ap, ◌∙◌, arith}
-use Rattle.std.specs.List.{range_with_len, flat_map}
-use Rattle.std.proofs.lemmas.List.{append-nil, append_assoc}
+use Rattle.std.proofs.Common.{◌≡◌, ℕ, zero, suc, ◌+◌, ◌<◌, ◌≤◌, Bool, cond, List, [], ◌∷◌, ◌++◌, map, length, get_or, refl, ap, arith}
+use Rattle.std.specs.List.{range_with_len, flat_map, filter, AllByRecursion}
 use Rattle.std.proofs.lemmas.Bool.{cond_both}
 use Rattle.meaning.specs.declared.Arc.{Arc}
 use Rattle.meaning.specs.Systems.{no_arc}
 use Rattle.plant.specs.Model.{Distinct}
-
--- what holds of each element
-abbrev All : (Arc → Type 0) → List Arc → Type 0
-All P [] = Unit {0}
-All P (x ∷ xs) = P x × All P xs
-
-pub all_at : (P : Arc → Type 0) (xs : List Arc) (i : ℕ) (d : Arc) → All P xs → i < length xs → P (get_or xs i d)
-all_at P [] i d h l = absurd (omega arith)
-all_at P (x ∷ xs) zero d h l = h.0
-all_at P (x ∷ xs) (suc i) d h l = all_at P xs i d h.1 (omega arith)
 
 -- the events rise, and are a or above
 abbrev Rising : ℕ → List Arc → Type 0
@@ -38,20 +27,13 @@ distinct a xs h i j e =
     let same : (get_or xs i no_arc).event ≡ (get_or xs j no_arc).event = ap (λ (x : Arc). x.event) (e.2 no_arc) in
     omega (arith, rises a xs i j no_arc h e.0 e.1, same)
 
-pub joined_split : {X : Type 0} (f : ℕ → List X) (m k a : ℕ) → flat_map f (range_with_len a (m + k)) ≡ flat_map f (range_with_len a m) ++ flat_map f (range_with_len (a + m) k)
-joined_split {X} f zero k a =
-    let n : 0 + k ≡ k = omega arith in
-    let from : a + 0 ≡ a = omega arith in
-    rw (n, from) refl
-joined_split {X} f (suc m) k a =
-    let n : suc m + k ≡ suc (m + k) = omega arith in
-    let from : a + suc m ≡ a + 1 + m = omega arith in
-    rw (n, from) (ap (λ (xs : List X). f a ++ xs) (joined_split f m k (a + 1)) ∙ sym (append_assoc (f a) (flat_map f (range_with_len (a + 1) m)) (flat_map f (range_with_len (a + 1 + m) k))))
-
--- one rule more
-pub joined_next : {X : Type 0} (f : ℕ → List X) (n : ℕ) → flat_map f (range_with_len 0 (n + 1)) ≡ flat_map f (range_with_len 0 n) ++ f n
-joined_next {X} f n =
-    joined_split f n 1 0 ∙ ap (λ (xs : List X). flat_map f (range_with_len 0 n) ++ xs) (append-nil (f (0 + n)) ∙ ap f (omega arith))
+-- where each rule gives one element or none, those given are the elements of the rules that pass
+pub joined_kept : {X : Type 0} (b : ℕ → Bool) (a : ℕ → X) (rs : List ℕ) → flat_map (λ r. cond (b r) (a r ∷ []) []) rs ≡ map a (filter b rs)
+joined_kept b a [] = refl
+joined_kept {X} b a (r ∷ rs) =
+    cond_both (b r) (r ∷ filter b rs) (filter b rs) (λ ks. cond (b r) (a r ∷ []) [] ++ flat_map (λ r. cond (b r) (a r ∷ []) []) rs ≡ map a ks)
+    (λ yes. rw yes (ap (λ xs. a r ∷ xs) (joined_kept b a rs)))
+    (λ no. rw no (joined_kept b a rs))
 
 module _ (b : ℕ → Bool) (t : ℕ → ℕ) where
   -- the arc of one rule, if it has one
@@ -75,9 +57,9 @@ module _ (b : ℕ → Bool) (t : ℕ → ℕ) where
       (λ _. omega (arith, arcs_few n (a + 1)))
       (λ _. omega (arith, arcs_few n (a + 1)))
 
-  pub arcs_all : (P : Arc → Type 0) (n a : ℕ) → ((r : ℕ) → r < a + n → P (record { event = r; target = t r })) → All P (flat_map one (range_with_len a n))
+  pub arcs_all : (P : Arc → Type 0) (n a : ℕ) → ((r : ℕ) → r < a + n → P (record { event = r; target = t r })) → AllByRecursion P (flat_map one (range_with_len a n))
   arcs_all P zero a h = tt
   arcs_all P (suc n) a h =
-      cond_both (b a) (record { event = a; target = t a } ∷ []) [] (λ xs. All P (xs ++ flat_map one (range_with_len (a + 1) n)))
+      cond_both (b a) (record { event = a; target = t a } ∷ []) [] (λ xs. AllByRecursion P (xs ++ flat_map one (range_with_len (a + 1) n)))
       (λ _. (h a (omega arith), arcs_all P n (a + 1) (λ r l. h r (omega arith))))
       (λ _. arcs_all P n (a + 1) (λ r l. h r (omega arith)))

@@ -1,5 +1,5 @@
 -- Numbers of states as values of variables, and rules on the values, over plain lists. Assumes nothing.
-use Rattle.std.specs.Prelude.{◌≡◌, ℕ, ◌+◌, ◌*◌, ◌/◌, ◌%◌, ◌<◌, ◌≤◌, Bool, true, cond, ◌&&◌, List, [], ◌∷◌, length, take, drop, Some, None, Option, ◌==◌, slice_index, slice_index_or}
+use Rattle.std.specs.Prelude.{◌≡◌, ℕ, ◌+◌, ◌*◌, ◌/◌, ◌%◌, ◌<◌, ◌≤◌, Bool, true, cond, ◌&&◌, List, [], ◌∷◌, length, Some, None, Option, ◌==◌, slice_index, slice_index_or}
 use Rattle.std.specs.Option.{unwrap_or}
 
 -- how many states there are
@@ -39,10 +39,6 @@ abbrev pub after : List (Option ℕ) → List ℕ → List ℕ
 after [] vs = vs
 after (set ∷ sets) [] = []
 after (set ∷ sets) (v ∷ vs) = unwrap_or set v ∷ after sets vs
-
--- row r of a list in rows of n
-abbrev pub row_of : {A : Type 0} → ℕ → List A → ℕ → List A
-row_of n xs r = take n (drop (r * n) xs)
 
 -- each size is 1 to 16
 abbrev pub Sized : List ℕ → Type 0

@@ -12,5 +12,5 @@ any_model (Rule p) = rule_model p.parts
 
 -- each kind is lawful, so is any
 abbrev pub any_lawful : (p : AnyPlant) → Lawful (any_model p)
-any_lawful (Table p) = record { limits = p.limits; begins = p.begins; branches = p.branches; leads = p.leads; ends = p.ends }
+any_lawful (Table p) = p.lawful
 any_lawful (Rule p) = rule_lawful p.parts p.few p.ranged

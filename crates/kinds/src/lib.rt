@@ -15,6 +15,7 @@ pub enum AnyPlant {
     Rule(RulePlant),
 }
 
+// An enum, since the kinds are two and closed; a `Box<dyn Plant>` would allocate, and would say no more of its methods.
 impl Plant for AnyPlant {
     ghost model = { any_model };
 

@@ -9,8 +9,14 @@ use meaning::Arc;
 use refusal::Refusal;
 use std::alloc::AllocError;
 
+// What is answered for an arc past the end: no plant has an event 64.
+pub const PAST_ARC: Arc = Arc {
+    event: 64,
+    target: 0,
+};
+
 // A plant: what it stands for is its model, and whoever implements the trait proves that the model is lawful.
-// A question changes nothing and is never refused.
+// A question changes nothing and is never refused: state 0 and event 64 past the end, and no `Option`, is the rule of its calls.
 pub trait Plant {
     // what the answers are about
     ghost model: { Self → Model };
@@ -49,7 +55,7 @@ pub trait Plant {
 }
 
 // Why no plant was made.
-#[derive(Clone, Copy)]
+#[derive(Clone, Copy, Debug, PartialEq, Eq)]
 pub enum Failure {
     Refused(Refusal),
     // want of memory, which is no rule's refusal

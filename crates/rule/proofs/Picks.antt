@@ -1,49 +1,47 @@
 -- Which of a state's arcs is which rule's. Relies on guarded's lists of arcs.
-use Rattle.std.proofs.Common.{◌≡◌, ℕ, suc, ◌+◌, ◌-◌, ◌*◌, ◌<◌, ◌≤◌, true, false, ltb, List, [], ◌∷◌, ◌++◌, length, get_or, drop, refl, ap, ◌∙◌, mul-le-mul_right, arith}
-use Rattle.std.specs.List.{range_with_len, flat_map}
-use Rattle.std.proofs.lemmas.List.{length-append, length-take-le, length-drop, get_or_at}
-use Rattle.std.proofs.lemmas.Bool.{cond-true, cond-false, lt-ltb}
+use Rattle.std.proofs.Common.{◌≡◌, ℕ, ◌+◌, ◌*◌, ◌<◌, ◌≤◌, ltb, List, [], map, Some, None, Option, get_or, slice_get, unwrap_or, sym, refl, ap, ◌∙◌, mul-le-mul_right, arith}
+use Rattle.std.specs.List.{range_with_len, filter}
+use Rattle.std.specs.Option.{option_map, option_map_or}
+use Rattle.std.proofs.lemmas.Option.{slice_get-map, unwrap_or-slice_get}
+use Rattle.std.proofs.lemmas.Bool.{cond-true, lt-ltb}
 use Rattle.meaning.specs.declared.Arc.{Arc}
 use Rattle.guarded.specs.declared.Parts.{Parts}
-use Rattle.guarded.specs.Values.{extent_of, values_of, meets, row_of}
-use Rattle.guarded.specs.Made.{sizes_of, needs_of, target_of, arc_by, arcs_by, model_of}
-use Rattle.guarded.proofs.Listed.{joined_split, joined_next}
+use Rattle.guarded.specs.Values.{extent_of, values_of, meets}
+use Rattle.guarded.specs.Made.{sizes_of, rule_count, needs_of, target_of, arcs_by, model_of}
+use Rattle.guarded.proofs.Listed.{joined_kept}
 
 -- a row within the rows
 pub row_within : (r n w : ℕ) → r < n → r * w + w ≤ n * w
 row_within r n w l = omega (arith, mul-le-mul_right {m = r + 1} {n = n} w (omega arith))
 
-pub length_row : {A : Type 0} (w : ℕ) (xs : List A) (r : ℕ) → r * w + w ≤ length xs → length (row_of w xs r) ≡ w
-length_row w xs r l = length-take-le w (drop (r * w) xs) (omega (arith, length-drop (r * w) xs))
-
-module _ (p : Parts) (vs : List ℕ) (r : ℕ) where
-  pub count_more : meets (needs_of p r) vs ≡ true → length (arcs_by p vs (r + 1)) ≡ length (arcs_by p vs r) + 1
-  count_more h =
-      ap length (joined_next (arc_by p vs) r ∙ ap (λ xs. arcs_by p vs r ++ xs) (cond-true (meets (needs_of p r) vs) (record { event = r; target = target_of p vs r } ∷ []) [] h))
-      ∙ length-append (arcs_by p vs r) (record { event = r; target = target_of p vs r } ∷ [])
-
-  pub count_same : meets (needs_of p r) vs ≡ false → length (arcs_by p vs (r + 1)) ≡ length (arcs_by p vs r)
-  count_same h =
-      ap length (joined_next (arc_by p vs) r ∙ ap (λ xs. arcs_by p vs r ++ xs) (cond-false (meets (needs_of p r) vs) (record { event = r; target = target_of p vs r } ∷ []) [] h))
-      ∙ length-append (arcs_by p vs r) [] ∙ omega arith
-
-  found_in : (k : ℕ) (d : Arc) → meets (needs_of p r) vs ≡ true
-      → get_or (arcs_by p vs (r + suc k)) (length (arcs_by p vs r)) d ≡ record { event = r; target = target_of p vs r }
-  found_in k d h =
-      let from : 0 + r ≡ r = omega arith in
-      let after : flat_map (arc_by p vs) (range_with_len (0 + r) (suc k)) ≡ record { event = r; target = target_of p vs r } ∷ flat_map (arc_by p vs) (range_with_len (r + 1) k) =
-      ap (λ a. flat_map (arc_by p vs) (range_with_len a (suc k))) from
-      ∙ ap (λ xs. xs ++ flat_map (arc_by p vs) (range_with_len (r + 1) k)) (cond-true (meets (needs_of p r) vs) (record { event = r; target = target_of p vs r } ∷ []) [] h) in
-      ap (λ xs. get_or xs (length (arcs_by p vs r)) d) (joined_split (arc_by p vs) r (suc k) 0 ∙ ap (λ xs. arcs_by p vs r ++ xs) after)
-      ∙ get_or_at (arcs_by p vs r) (record { event = r; target = target_of p vs r }) (flat_map (arc_by p vs) (range_with_len (r + 1) k)) d (length (arcs_by p vs r)) refl
-
-  pub found : (n : ℕ) (d : Arc) → r < n → meets (needs_of p r) vs ≡ true
-      → get_or (arcs_by p vs n) (length (arcs_by p vs r)) d ≡ record { event = r; target = target_of p vs r }
-  found n d l h =
-      let whole : n ≡ r + suc (n - r - 1) = omega arith in
-      ap (λ m. get_or (arcs_by p vs m) (length (arcs_by p vs r)) d) whole ∙ found_in (n - r - 1) d h
-
 -- below the extent, a state's arcs are those by the rules
-pub arcs_at_state : (p : Parts) (s : ℕ) → s < extent_of (sizes_of p) → (model_of p).system.arcs s ≡ arcs_by p (values_of (sizes_of p) s) p.rules
+pub arcs_at_state : (p : Parts) (s : ℕ) → s < extent_of (sizes_of p) → (model_of p).system.arcs s ≡ arcs_by p (values_of (sizes_of p) s) (rule_count p)
 arcs_at_state p s l =
-    cond-true (ltb s (extent_of (sizes_of p))) (arcs_by p (values_of (sizes_of p) s) p.rules) [] (lt-ltb s (extent_of (sizes_of p)) l)
+    cond-true (ltb s (extent_of (sizes_of p))) (arcs_by p (values_of (sizes_of p) s) (rule_count p)) [] (lt-ltb s (extent_of (sizes_of p)) l)
+
+-- the rules whose needs are met, and the arc of each
+abbrev pub met_rules : Parts → List ℕ → List ℕ
+met_rules p vs = filter (λ r. meets (needs_of p r) vs) (range_with_len 0 (rule_count p))
+
+abbrev pub arc_of_rule : Parts → List ℕ → ℕ → Arc
+arc_of_rule p vs r = record { event = r; target = target_of p vs r }
+
+pub arcs_listed : (p : Parts) (s : ℕ) → s < extent_of (sizes_of p) → (model_of p).system.arcs s ≡ map (arc_of_rule p (values_of (sizes_of p) s)) (met_rules p (values_of (sizes_of p) s))
+arcs_listed p s l =
+    let vs = values_of (sizes_of p) s in
+    arcs_at_state p s l ∙ joined_kept (λ r. meets (needs_of p r) vs) (arc_of_rule p vs) (range_with_len 0 (rule_count p))
+
+-- the arc at an index is that of the rule there
+pub arc_picked : (p : Parts) (s i : ℕ) (d : Arc) (r : Option ℕ) → s < extent_of (sizes_of p) → r ≡ slice_get (met_rules p (values_of (sizes_of p) s)) i
+    → option_map_or (arc_of_rule p (values_of (sizes_of p) s)) r d ≡ get_or ((model_of p).system.arcs s) i d
+arc_picked p s i d r l is =
+    let vs = values_of (sizes_of p) s in
+    ap (λ o. option_map_or (arc_of_rule p vs) o d) is
+    ∙ picked (slice_get (met_rules p vs) i)
+    ∙ ap (λ o. unwrap_or o d) (sym (slice_get-map (arc_of_rule p vs) (met_rules p vs) i))
+    ∙ unwrap_or-slice_get (map (arc_of_rule p vs) (met_rules p vs)) i d
+    ∙ sym (ap (λ xs. get_or xs i d) (arcs_listed p s l))
+  where
+    picked : (o : Option ℕ) → option_map_or (arc_of_rule p (values_of (sizes_of p) s)) o d ≡ unwrap_or (option_map (arc_of_rule p (values_of (sizes_of p) s)) o) d
+    picked None = refl
+    picked (Some x) = refl

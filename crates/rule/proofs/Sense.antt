@@ -1,23 +1,21 @@
 -- Words that no row refuses: the parts read of them are within their bounds, and make the model that they mean. Relies on Tied and Spots.
-use Rattle.std.proofs.Common.{◌≡◌, ℕ, ◌+◌, ◌*◌, ◌/◌, ◌%◌, ◌^◌, ◌<◌, ◌≤◌, cond, not, eqb, ltb, List, [], ◌∷◌, map, length, get_or, take, drop, Some, None, Decides, sym, refl, ap, ◌∙◌, subst, inl, inr, ⊎_elim, add-mul, arith}
+use Rattle.std.proofs.Common.{◌≡◌, ℕ, ◌+◌, ◌*◌, ◌/◌, ◌%◌, ◌^◌, ◌<◌, ◌≤◌, cond, not, eqb, ltb, List, [], ◌∷◌, length, get_or, drop, Some, None, Decides, sym, refl, ap, ◌∙◌, subst, ⊎_elim, add-mul, arith}
 use Rattle.std.specs.List.{range_with_len, flat_map}
 use Rattle.std.proofs.lemmas.List.{length-take-le, length-drop, length-map, get_or-map, get_or-take, get_or-drop}
 use Rattle.std.proofs.lemmas.Bool.{cases_lt, cases_Bool, cond-true, cond-false, eqb-false, lt-ltb}
-use Rattle.refusal.specs.Causes.{Gives}
-use Rattle.refusal.specs.Rows.{Clear, First, Lowest}
-use Rattle.refusal.specs.declared.Layer.TheVariants.{Plant}
+use Rattle.refusal.specs.Rows.{Clear, First}
 use Rattle.refusal.specs.declared.Refusal.{Refusal}
 use Rattle.refusal.proofs.Settled.{one_refusal, not_both, one_lowest, one_fails}
 use Rattle.guarded.specs.declared.Parts.{Parts}
-use Rattle.guarded.specs.Values.{extent_of, values_of, number_of, facts_of, meets, after, row_of, Sized}
-use Rattle.guarded.specs.Made.{sizes_of, width_of, needs_of, sets_of, target_of, arc_by, arcs_by, model_of, Few, Filled, InRange}
+use Rattle.guarded.specs.Values.{extent_of, values_of, number_of, facts_of, meets, after, Sized}
+use Rattle.guarded.specs.Made.{sizes_of, width_of, rule_count, needs_of, sets_of, target_of, arc_by, arcs_by, model_of, Few, Filled, InRange}
 use Rattle.guarded.proofs.Numbering.{Below, values_below, number_below, number_values, values_number, facts_decide}
 use Rattle.guarded.proofs.Laws.{lawful}
-use Rattle.rule.specs.Words.{variables, rules, sizes, needs, sets, Shaped, Foreign, rows}
+use Rattle.rule.specs.Words.{variables, rules, sizes, row, needs, sets, Shaped, Foreign, rows}
 use Rattle.rule.specs.Meaning.{product, number, Values, met, changed, arc_of, arcs_at, Means}
 use Rattle.rule.specs.Read.{Reads, Granted, value_in}
 use Rattle.rule.proofs.Picks.{row_within, arcs_at_state}
-use Rattle.rule.proofs.Tied.{product_is, number_is, meets_is, after_is, row_is, joined_same}
+use Rattle.rule.proofs.Tied.{product_is, number_is, meets_is, after_is, joined_same}
 
 -- a word that names a value is that value, and not 255
 named : (w v : ℕ) → value_in w ≡ Some v → (w ≡ v) × (w ≡ 255 → ⊥)
@@ -34,18 +32,14 @@ module _ (ws : List ℕ) (p : Parts) (shaped : Shaped ws) (reads : Reads ws p) w
   width_is : width_of p ≡ variables ws
   width_is = ap length reads.by_sizes ∙ length_sizes
 
-  needs_are : (r : ℕ) → r < p.rules → needs_of p r ≡ map value_in (needs ws r)
-  needs_are r l =
-      (λ i. row_of (width_is i) (reads.by_needs i) r)
-      ∙ row_is ws (2 + variables ws) (rules ws) (variables ws) r (omega (arith, reads.by_rules))
+  many : rule_count p ≡ rules ws
+  many = reads.ruled.many
 
-  sets_are : (r : ℕ) → r < p.rules → sets_of p r ≡ map value_in (sets ws r)
-  sets_are r l =
-      let place : 2 + variables ws + rules ws * variables ws + r * variables ws ≡ 2 + variables ws + (rules ws + r) * variables ws =
-      omega (arith, add-mul (rules ws) r (variables ws)) in
-      (λ i. row_of (width_is i) (reads.by_sets i) r)
-      ∙ row_is ws (2 + variables ws + rules ws * variables ws) (rules ws) (variables ws) r (omega (arith, reads.by_rules))
-      ∙ ap (λ a. map value_in (take (variables ws) (drop a ws))) place
+  -- row k of the rows behind the sizes
+  length_row : (k : ℕ) → k < 2 * rules ws → length (row ws k) ≡ variables ws
+  length_row k l =
+      length-take-le (variables ws) (drop (2 + variables ws + k * variables ws) ws)
+      (omega (arith, length-drop (2 + variables ws + k * variables ws) ws, shaped.long, row_within k (2 * rules ws) (variables ws) l))
 
   sized : Sized (sizes_of p)
   sized = subst Sized (sym reads.by_sizes) (λ j l. (shaped.some_values j (omega (arith, length_sizes)), shaped.few_values j (omega (arith, length_sizes))))
@@ -54,32 +48,26 @@ module _ (ws : List ℕ) (p : Parts) (shaped : Shaped ws) (reads : Reads ws p) w
   few = (
     omega (arith, width_is, shaped.few_variables),
     sized,
-    omega (arith, reads.by_rules, shaped.some_rules),
-    omega (arith, reads.by_rules, shaped.few_rules),
+    omega (arith, many, shaped.some_rules),
+    omega (arith, many, shaped.few_rules),
   )
 
-  long_part : (a : ℕ) → a + rules ws * variables ws ≤ length ws → length (map value_in (take (rules ws * variables ws) (drop a ws))) ≡ p.rules * width_of p
-  long_part a l =
-      length-map (take (rules ws * variables ws) (drop a ws)) value_in
-      ∙ length-take-le (rules ws * variables ws) (drop a ws) (omega (arith, length-drop a ws))
-      ∙ sym (λ i. reads.by_rules i * width_is i)
-
   pub filled : Filled p
-  filled = (
-    ap length reads.by_needs ∙ long_part (2 + variables ws) (omega (arith, shaped.long)),
-    ap length reads.by_sets ∙ long_part (2 + variables ws + rules ws * variables ws) (omega (arith, shaped.long)),
+  filled r l = (
+    ap length (reads.ruled.by_needs r (omega (arith, many))) ∙ length-map (needs ws r) value_in ∙ length_row r (omega (arith, many)) ∙ sym width_is,
+    ap length (reads.ruled.by_sets r (omega (arith, many))) ∙ length-map (sets ws r) value_in ∙ length_row (rules ws + r) (omega (arith, many)) ∙ sym width_is,
   )
 
   pub ranged : ((i : ℕ) → Foreign ws i → ⊥) → InRange p
   ranged native r j v h =
       let at : ℕ = 2 + variables ws + (rules ws + r) * variables ws in
       let within : at + variables ws ≤ length ws =
-      omega (arith, shaped.long, add-mul (rules ws) r (variables ws), row_within r (rules ws) (variables ws) (omega (arith, h.0, reads.by_rules))) in
+      omega (arith, shaped.long, add-mul (rules ws) r (variables ws), row_within r (rules ws) (variables ws) (omega (arith, h.0, many))) in
       let narrow : j < variables ws = omega (arith, h.1, width_is) in
       let long : length (sets ws r) ≡ variables ws = length-take-le (variables ws) (drop at ws) (omega (arith, length-drop at ws)) in
       let word : get_or (sets ws r) j 0 ≡ get_or ws (at + j) 0 = get_or-take (variables ws) (drop at ws) j 0 narrow ∙ get_or-drop at ws j 0 in
       let read : get_or (sets_of p r) j None ≡ value_in (get_or (sets ws r) j 0) =
-      ap (λ os. get_or os j None) (sets_are r h.0) ∙ get_or-map value_in (sets ws r) j 0 None (omega arith) in
+      ap (λ os. get_or os j None) (reads.ruled.by_sets r (omega (arith, h.0, many))) ∙ get_or-map value_in (sets ws r) j 0 None (omega arith) in
       let is = named (get_or ws (at + j) 0) v (sym (ap value_in word) ∙ sym read ∙ h.2) in
       ⊎_elim
       (λ lt. lt)
@@ -87,7 +75,7 @@ module _ (ws : List ℕ) (p : Parts) (shaped : Shaped ws) (reads : Reads ws p) w
       (record {
         at_row = rules ws + r;
         at_variable = j;
-        row_within = omega (arith, h.0, reads.by_rules);
+        row_within = omega (arith, h.0, many);
         variable_within = narrow;
         place = omega arith;
         not_any = is.1;
@@ -114,26 +102,26 @@ module _ (ws : List ℕ) (p : Parts) (shaped : Shaped ws) (reads : Reads ws p) w
       (lt-ltb (number (sizes ws) vs) (extent_of (sizes_of p)) (number_inside vs h))
       ∙ ap facts_of (values_back vs h)
 
-  arc_same : (vs : List ℕ) (r : ℕ) → r < p.rules → arc_by p vs r ≡ arc_of ws vs r
+  arc_same : (vs : List ℕ) (r : ℕ) → r < rule_count p → arc_by p vs r ≡ arc_of ws vs r
   arc_same vs r l =
-      let enabled : meets (needs_of p r) vs ≡ met (needs ws r) vs = ap (λ os. meets os vs) (needs_are r l) ∙ meets_is (needs ws r) vs in
+      let enabled : meets (needs_of p r) vs ≡ met (needs ws r) vs = ap (λ os. meets os vs) (reads.ruled.by_needs r (omega (arith, many))) ∙ meets_is (needs ws r) vs in
       let leads : target_of p vs r ≡ number (sizes ws) (changed (sets ws r) vs) =
-      sym (number_agrees (after (sets_of p r) vs)) ∙ ap (number (sizes ws)) (ap (λ os. after os vs) (sets_are r l) ∙ after_is (sets ws r) vs) in
+      sym (number_agrees (after (sets_of p r) vs)) ∙ ap (number (sizes ws)) (ap (λ os. after os vs) (reads.ruled.by_sets r (omega (arith, many))) ∙ after_is (sets ws r) vs) in
       λ i. cond (enabled i) (record { event = r; target = leads i } ∷ []) []
 
   arcs_of : (vs : List ℕ) → Values (sizes ws) vs → (model_of p).system.arcs (number (sizes ws) vs) ≡ arcs_at ws vs
   arcs_of vs h =
       arcs_at_state p (number (sizes ws) vs) (number_inside vs h)
-      ∙ ap (λ us. arcs_by p us p.rules) (values_back vs h)
-      ∙ joined_same (arc_by p vs) (arc_of ws vs) p.rules 0 (λ r l. arc_same vs r (omega arith))
-      ∙ ap (λ n. flat_map (arc_of ws vs) (range_with_len 0 n)) reads.by_rules
+      ∙ ap (λ us. arcs_by p us (rule_count p)) (values_back vs h)
+      ∙ joined_same (arc_by p vs) (arc_of ws vs) (rule_count p) 0 (λ r l. arc_same vs r (omega arith))
+      ∙ ap (λ n. flat_map (arc_of ws vs) (range_with_len 0 n)) many
 
   pub means : Means ws (model_of p)
   means =
       record {
-        events = reads.by_rules;
+        events = many;
         extent = product_is (sizes_of p) ∙ ap product reads.by_sizes;
-        width = reads.by_rules;
+        width = many;
         initial = refl;
         numbered =
             λ s l. (
@@ -157,12 +145,6 @@ granted ws p shaped native reads =
       means = means ws p shaped reads;
       lawful = lawful p (few ws p shaped reads) (ranged ws p shaped reads native);
     }
-
-pub by_shape : (ws : List ℕ) (r : Refusal) → (Shaped ws → ⊥) → Gives r 35 Plant 0 → First (rows ws) r
-by_shape ws r h g = inl (0, (h, refl), g)
-
-pub by_value : (ws : List ℕ) (r : Refusal) (i : ℕ) → Shaped ws → Lowest (Foreign ws) i → Gives r 36 Plant i → First (rows ws) r
-by_value ws r i shaped l g = inr ((λ j f. f.0 shaped), inl (i, l, g))
 
 -- a refusal by a row is the only one, and there is none where the words are clear
 pub one : (ws : List ℕ) (d e : Refusal) → First (rows ws) d → First (rows ws) e → d ≡ e

@@ -1,11 +1,9 @@
 -- What is read of the words makes the model that they mean. Relies on guarded's lemmas and Spots.
-use Rattle.std.proofs.Common.{◌≡◌, ℕ, zero, suc, ◌+◌, ◌-◌, ◌*◌, ◌<◌, ◌≤◌, Bool, true, false, cond, ◌&&◌, ◌||◌, eqb, List, [], ◌∷◌, ◌++◌, map, take, drop, Some, None, fold, unwrap_or, refl, ap, ◌∙◌, mul_assoc, mul-add, arith}
+use Rattle.std.proofs.Common.{◌≡◌, ℕ, zero, suc, ◌+◌, ◌*◌, ◌<◌, Bool, true, false, cond, ◌&&◌, ◌||◌, eqb, List, [], ◌∷◌, ◌++◌, map, Some, None, fold, unwrap_or, refl, ◌∙◌, mul_assoc, mul-add, arith}
 use Rattle.std.specs.List.{range_with_len, flat_map}
-use Rattle.std.proofs.lemmas.List.{take-take, drop-take, drop-drop, take-map, drop-map}
-use Rattle.guarded.specs.Values.{extent_of, number_of, admits, meets, after, row_of}
+use Rattle.guarded.specs.Values.{extent_of, number_of, admits, meets, after}
 use Rattle.rule.specs.Meaning.{product, weighed, number, met, changed}
 use Rattle.rule.specs.Read.{value_in}
-use Rattle.rule.proofs.Picks.{row_within}
 
 -- the product of the sizes, and the numbers of states
 product_from : (a : ℕ) (ns : List ℕ) → fold ◌*◌ a ns ≡ a * extent_of ns
@@ -49,18 +47,6 @@ pub after_is : (ns vs : List ℕ) → after (map value_in ns) vs ≡ changed ns 
 after_is [] vs = refl
 after_is (n ∷ ns) [] = refl
 after_is (n ∷ ns) (v ∷ vs) = λ i. set_is n v i ∷ after_is ns vs i
-
--- row r of n rows of w that stand from a on
-pub row_is : (ws : List ℕ) (a n w r : ℕ) → r < n → row_of w (map value_in (take (n * w) (drop a ws))) r ≡ map value_in (take w (drop (a + r * w) ws))
-row_is ws a n w r l =
-    let within : r * w + w ≤ n * w = row_within r n w l in
-    let split : n * w ≡ r * w + (n * w - r * w) = omega arith in
-    ap (take w) (drop-map value_in (r * w) (take (n * w) (drop a ws)))
-    ∙ take-map value_in w (drop (r * w) (take (n * w) (drop a ws)))
-    ∙ ap (λ xs. map value_in (take w xs))
-    (ap (λ k. drop (r * w) (take k (drop a ws))) split ∙ drop-take (r * w) (n * w - r * w) (drop a ws))
-    ∙ ap (map value_in) (take-take w (n * w - r * w) (drop (r * w) (drop a ws)) (omega arith))
-    ∙ ap (λ xs. map value_in (take w xs)) (drop-drop (r * w) a ws)
 
 pub joined_same : {X : Type 0} (f g : ℕ → List X) (n a : ℕ) → ((r : ℕ) → r < a + n → f r ≡ g r) → flat_map f (range_with_len a n) ≡ flat_map g (range_with_len a n)
 joined_same f g zero a h = refl

@@ -15,6 +15,13 @@ rules ws = slice_index ws 1
 abbrev pub sizes : List ℕ → List ℕ
 sizes ws = take (variables ws) (drop 2 ws)
 
+-- the needs of all rules, and their sets
+abbrev pub all_needs : List ℕ → List ℕ
+all_needs ws = take (rules ws * variables ws) (drop (2 + variables ws) ws)
+
+abbrev pub all_sets : List ℕ → List ℕ
+all_sets ws = take (rules ws * variables ws) (drop (2 + variables ws + rules ws * variables ws) ws)
+
 -- row k of the rows behind the sizes: first the needs of each rule, then the sets of each
 abbrev pub row : List ℕ → ℕ → List ℕ
 row ws k = take (variables ws) (drop (2 + variables ws + k * variables ws) ws)

@@ -1,34 +1,40 @@
-// What a rule plant answers: a state's number is taken apart anew for each rule. Relies on rule, part and states.
+// What a rule plant answers: a state's number is taken apart anew for each rule. Relies on rule and states.
 ghost use Rattle.std.specs.Prelude.{◌≡◌, ◌<◌};
 ghost use Rattle.guarded.specs.Values.{meets, values_of};
-ghost use Rattle.guarded.specs.Made.{sizes_of, needs_of, target_of, model_of};
+ghost use Rattle.guarded.specs.Made.{sizes_of, rule_count, needs_of, target_of, model_of};
 ghost use Rattle.guarded.proofs.Laws.{lawful as lawful_model};
 
-use crate::part::row;
 use crate::rule::RulePlant;
-use crate::states;
+use crate::states::Sizes;
 use meaning::Arc;
-use plant::Plant;
+use plant::{PAST_ARC, Plant};
 
 impl RulePlant {
+    // The sizes of its variables.
+    fn sizes(&self) -> Sizes<'_>
+        ensures { result.sizes.now ≡ sizes_of self.now.parts }
+    {
+        Sizes {
+            sizes: self.parts.sizes.as_slice(),
+        }
+    }
+
     // Whether a rule's needs are met in a state.
     fn enabled(&self, rule: u8, state: u32) -> bool
-        requires { rule < self.now.parts.rules }
+        requires { rule < rule_count self.now.parts }
         ensures { result ≡ meets (needs_of self.now.parts rule) (values_of (sizes_of self.now.parts) state) }
     {
-        let sizes = self.parts.sizes.as_slice();
-        let needs = row(self.parts.needs.as_slice(), sizes.len(), rule as usize);
-        states::met(sizes, needs, state)
+        let needs = &self.parts.rules[usize::from(rule)].needs;
+        self.sizes().met(needs.as_slice(), state)
     }
 
     // The state that a rule leads to.
     fn landing(&self, rule: u8, state: u32) -> u32
-        requires { rule < self.now.parts.rules }
+        requires { rule < rule_count self.now.parts }
         ensures { result ≡ target_of self.now.parts (values_of (sizes_of self.now.parts) state) rule }
     {
-        let sizes = self.parts.sizes.as_slice();
-        let sets = row(self.parts.sets.as_slice(), sizes.len(), rule as usize);
-        states::target(sizes, sets, state)
+        let sets = &self.parts.rules[usize::from(rule)].sets;
+        self.sizes().target(sets.as_slice(), state)
     }
 }
 
@@ -38,11 +44,11 @@ impl Plant for RulePlant {
     ghost lawful = { λ p. lawful_model p.parts p.few p.ranged };
 
     fn events(&self) -> u8 {
-        self.parts.rules
+        self.parts.rules.len() as u8
     }
 
     fn extent(&self) -> u64 {
-        states::extent(self.parts.sizes.as_slice())
+        self.sizes().extent()
     }
 
     fn width(&self) -> u8 {
@@ -58,45 +64,34 @@ impl Plant for RulePlant {
     }
 
     fn facts(&self, state: u32) -> u32 {
-        if state as u64 >= self.extent() {
+        if u64::from(state) >= self.extent() {
             return 0;
         }
-        states::facts(self.parts.sizes.as_slice(), state)
+        self.sizes().facts(state)
     }
 
     fn arc_count(&self, state: u32) -> u8 {
-        if state as u64 >= self.extent() {
+        if u64::from(state) >= self.extent() {
             return 0;
         }
-        let mut count = 0;
-        for rule in 0..self.parts.rules {
-            if self.enabled(rule, state) {
-                count += 1;
-            }
-        }
-        count
+        (0..self.events())
+            .filter(|rule| self.enabled(*rule, state))
+            .count() as u8
     }
 
     fn arc(&self, state: u32, index: usize) -> Arc {
-        let past = Arc {
-            event: 64,
-            target: 0,
-        };
-        if state as u64 >= self.extent() {
-            return past;
+        if u64::from(state) >= self.extent() {
+            return PAST_ARC;
         }
-        let mut before = 0;
-        for rule in 0..self.parts.rules {
-            if self.enabled(rule, state) {
-                if before == index {
-                    return Arc {
-                        event: rule,
-                        target: self.landing(rule, state),
-                    };
-                }
-                before += 1;
-            }
-        }
-        past
+        (0..self.events())
+            .filter(|rule| self.enabled(*rule, state))
+            .nth(index)
+            .map_or(
+                PAST_ARC,
+                |rule| Arc {
+                    event: rule,
+                    target: self.landing(rule, state),
+                },
+            )
     }
 }

@@ -1,90 +1,28 @@
 // Rule plants from words, or the refusal of the first row that applies. All is checked before memory is asked for.
-// Relies on rule and part.
-ghost use Rattle.std.specs.Prelude.{◌≡◌, ℕ, ◌<◌, ◌≤◌, map, length, IfOk, Err, Decides, MatchOption, MatchResult, slice_index};
-ghost use Rattle.refusal.specs.Rows.{First, Lowest};
+// Relies on rule and sections.
+ghost use Rattle.std.specs.Prelude.{◌≡◌, ℕ, ◌≤◌, map, IfOk, Err, MatchResult};
+ghost use Rattle.std.specs.List.{All};
+ghost use Rattle.refusal.specs.Rows.{First};
 ghost use Rattle.refusal.specs.declared.Refusal.{Refusal as Given};
 ghost use Rattle.plant.specs.Making.{Failed};
 ghost use Rattle.plant.specs.declared.Failure.TheVariants.{Refused};
 ghost use Rattle.guarded.specs.Made.{model_of};
-ghost use Rattle.guarded.specs.Values.{Sized};
-ghost use Rattle.rule.specs.Words.{Shaped, Foreign, rows};
-ghost use Rattle.rule.specs.Read.{Measured, Reads, Granted, value_in};
+ghost use Rattle.rule.specs.Words.{Foreign, rows};
+ghost use Rattle.rule.specs.Read.{Ruled, Reads, Granted, value_in};
 
-use crate::part::part;
 use crate::rule::RulePlant;
-use guarded::Parts;
+use crate::sections::{ANY, Sections};
+use guarded::{Parts, Rule};
 use plant::Failure;
-use refusal::Cause;
+use refusal::{Cause, Refusal};
 use std::alloc::{AllocError, Global};
-
-// The word for any value in a need, and for no change in a set.
-const ANY: u32 = 255;
-
-// How many variables and rules there are.
-#[derive(Clone, Copy)]
-pub(crate) struct Shape {
-    pub(crate) variables: usize,
-    pub(crate) rules: usize,
-}
-
-// Whether each size is 1 to 16.
-fn sized(sizes: &[u32]) -> bool
-    ensures { Decides result (Sized sizes.now) }
-{
-    for size in sizes {
-        if *size < 1 || *size > 16 {
-            return false;
-        }
-    }
-    true
-}
-
-// The counts, where they, the sizes and the number of words are as they should be.
-fn measured(words: &[u32]) -> Option<Shape>
-    ensures { MatchOption result (Shaped words.now → ⊥) (λ shape. Measured words.now shape) }
-{
-    if words.len() < 2 {
-        return None;
-    }
-    let variables = words[0] as usize;
-    let rules = words[1] as usize;
-    if variables < 1 || variables > 8 || rules < 1 || rules > 16 {
-        return None;
-    }
-    if words.len() != 2 + variables + 2 * (rules * variables) {
-        return None;
-    }
-    if !sized(part(words, 2, variables)) {
-        return None;
-    }
-    Some(Shape { variables, rules })
-}
-
-// The lowest place of a need or a set that is neither 255 nor a value of its variable.
-fn foreign(words: &[u32], shape: Shape) -> Option<usize>
-    requires { Measured words.now shape }
-    ensures { MatchOption result ((i : ℕ) → Foreign words.now i → ⊥) (λ i. Lowest (Foreign words.now) i) }
-{
-    let from = 2 + shape.variables;
-    for place in from..words.len() {
-        let size = words[2 + (place - from) % shape.variables];
-        if words[place] != ANY && words[place] >= size {
-            return Some(place);
-        }
-    }
-    None
-}
 
 // The sizes that the words are.
 fn sizes(heap: Global, words: &[u32]) -> Result<Vec<u8>, AllocError>
-    requires { Sized words.now }
+    requires { All (λ size. size ≤ 16) words.now }
     ensures { IfOk result (λ v. v.items ≡ words.now) }
 {
-    let mut sizes = Vec::new(heap);
-    for word in words {
-        sizes.push(*word as u8)?;
-    }
-    Ok(sizes)
+    words.iter().map(|size| *size as u8).collect(heap)
 }
 
 // The value that a word names.
@@ -92,38 +30,54 @@ fn value(word: u32) -> Option<u8>
     requires { word ≤ 255 }
     ensures { result ≡ value_in word }
 {
-    if word == ANY { None } else { Some(word as u8) }
+    (word != ANY).then_some(word as u8)
 }
 
 // The values that the words name.
 fn values(heap: Global, words: &[u32]) -> Result<Vec<Option<u8>>, AllocError>
-    requires { (k : ℕ) → k < length words.now → slice_index words.now k ≤ 255 }
+    requires { All (λ word. word ≤ 255) words.now }
     ensures { IfOk result (λ v. v.items ≡ map value_in words.now) }
 {
-    let mut values = Vec::new(heap);
-    for word in words {
-        values.push(value(*word))?;
-    }
-    Ok(values)
+    words.iter().map(|word| value(*word)).collect(heap)
 }
 
-// What stands in the words.
-fn read(heap: Global, words: &[u32], shape: Shape) -> Result<Parts, AllocError>
-    requires measured { Measured words.now shape }
-    requires native { (i : ℕ) → Foreign words.now i → ⊥ }
-    ensures { IfOk result (λ p. Reads words.now p) }
+impl Sections<'_> {
+    // The rules that stand in the words.
+    fn rules(&self, heap: Global) -> Result<Vec<Rule>, AllocError>
+        requires { (i : ℕ) → Foreign self.now.words.now i → ⊥ }
+        ensures { IfOk result (λ v. Ruled self.now.words.now v.items) }
+    {
+        let width = self.sizes.len();
+        let mut rules = Vec::new(heap);
+        for (needs, sets) in self.needs.chunks(width).zip(self.sets.chunks(width)) {
+            rules.push(Rule {
+                needs: values(heap, needs)?,
+                sets: values(heap, sets)?,
+            })?;
+        }
+        Ok(rules)
+    }
+
+    // What stands in the words.
+    fn read(&self, heap: Global) -> Result<Parts, AllocError>
+        requires { (i : ℕ) → Foreign self.now.words.now i → ⊥ }
+        ensures { IfOk result (λ p. Reads self.now.words.now p) }
+    {
+        let sizes = sizes(heap, self.sizes)?;
+        let rules = self.rules(heap)?;
+        Ok(Parts { sizes, rules })
+    }
+}
+
+// The parts of words that keep every rule, or the first rule that they break.
+fn checked(words: &[u32]) -> Result<Sections<'_>, Refusal>
+    ensures { MatchResult result (λ t. ((i : ℕ) → Foreign words.now i → ⊥) × (t.words.now ≡ words.now)) (λ e. First (rows words.now) e) }
 {
-    let count = shape.rules * shape.variables;
-    let from = 2 + shape.variables;
-    let sizes = sizes(heap, part(words, 2, shape.variables))?;
-    let needs = values(heap, part(words, from, count))?;
-    let sets = values(heap, part(words, from + count, count))?;
-    Ok(Parts {
-        sizes,
-        rules: shape.rules as u8,
-        needs,
-        sets,
-    })
+    let sections = Sections::cut(words).ok_or(Cause::RuleSize.at(0))?;
+    match sections.foreign() {
+        Some(place) => Err(Cause::RuleValue.at(place)),
+        None => Ok(sections),
+    }
 }
 
 impl RulePlant {
@@ -132,13 +86,8 @@ impl RulePlant {
         ensures answer { MatchResult result (λ p. Granted words.now (model_of p.parts)) (λ e. Failed (rows words.now) e) }
         ensures only { (e : Given) → First (rows words.now) e → result ≡ Err (Refused e) }
     {
-        let Some(shape) = measured(words) else {
-            return Err(Failure::Refused(Cause::RuleSize.at(0)));
-        };
-        if let Some(place) = foreign(words, shape) {
-            return Err(Failure::Refused(Cause::RuleValue.at(place)));
-        }
-        let parts = read(heap, words, shape)?;
+        let sections = checked(words)?;
+        let parts = sections.read(heap)?;
         Ok(RulePlant { parts })
     }
 }

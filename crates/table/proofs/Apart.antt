@@ -8,7 +8,7 @@ use Rattle.meaning.specs.Systems.{no_arc}
 use Rattle.plant.specs.Model.{Distinct}
 use Rattle.table.specs.Words.{state_count, initial_count, arc_count, at_events, part, initials, counts, events, targets, paired, all_arcs, arcs_of}
 use Rattle.table.specs.Refused.{Repeated, initial, arc}
-use Rattle.table.specs.Sections.{Measured, Again}
+use Rattle.table.specs.Measured.{Measured, Again}
 use Rattle.table.proofs.Lookups.{part_long, part_short}
 use Rattle.table.proofs.Paired.{length_paired, paired_take, paired_drop}
 use Rattle.table.proofs.Ranges.{long_initials, long_counts, long_events, long_targets}

@@ -1,8 +1,7 @@
 -- Words that keep every rule mean a lawful plant, and the parts read from them stand for it.
 -- Relies on Lookups, Paired, Ranges and Apart.
-use Rattle.std.proofs.Common.{◌≡◌, ℕ, zero, suc, ◌+◌, ◌-◌, ◌^◌, ◌<◌, ◌≤◌, max, List, [], ◌∷◌, length, get_or, vec_items, vec_len, fold, sym, ap, ◌∙◌, subst, ⊎_elim, arith}
+use Rattle.std.proofs.Common.{◌≡◌, ℕ, zero, suc, ◌+◌, ◌^◌, ◌<◌, ◌≤◌, max, List, [], ◌∷◌, length, get_or, vec_items, fold, sym, ap, ◌∙◌, subst, ⊎_elim, arith}
 use Rattle.std.proofs.lemmas.List.{get_or_past}
-use Rattle.std.proofs.lemmas.List.Sums.{sum_by-take-le}
 use Rattle.std.proofs.lemmas.Bool.{cases_lt}
 use Rattle.refusal.specs.Rows.{Clear}
 use Rattle.meaning.specs.declared.Arc.{Arc}
@@ -10,14 +9,17 @@ use Rattle.meaning.specs.Systems.{no_arc}
 use Rattle.plant.specs.Model.{Lawful}
 use Rattle.table.specs.Words.{state_count, arc_count, at_facts, part, facts, counts, events, targets, all_arcs, arcs_of, largest, meant}
 use Rattle.table.specs.Refused.{rows}
-use Rattle.table.specs.Parts.{model_of, first_arc}
-use Rattle.table.specs.Sections.{Kept}
+use Rattle.table.specs.Parts.{facts_at, arcs_at, model_of}
+use Rattle.table.specs.declared.parts.State.{State}
+use Rattle.std.specs.Option.{option_map_or}
+use Rattle.std.proofs.lemmas.Option.{slice_get_past}
+use Rattle.table.specs.Measured.{Kept}
 use Rattle.table.specs.Granted.{Read}
 use Rattle.table.specs.declared.parts.Parts.{Parts}
 use Rattle.table.proofs.Lookups.{part_at, part_short, part_inside}
 use Rattle.table.proofs.Paired.{arc, get_d_paired}
 use Rattle.table.proofs.Ranges.{long_initials, long_facts, long_counts, long_events, long_targets, at_least, at_most, low_initials, low_counts, low_events, low_targets}
-use Rattle.table.proofs.Apart.{before, before_le, before_more, long_arcs, distinct_initials, distinct_arcs}
+use Rattle.table.proofs.Apart.{before, long_arcs, distinct_initials, distinct_arcs}
 
 pub clear : {ws : List ℕ} → Kept ws → Clear (rows ws)
 clear k = (
@@ -94,47 +96,32 @@ module _ {ws : List ℕ} (kept : Kept ws) where
       }
 
   module _ {p : Parts} (read : Read ws p) where
-    extent_is : vec_len p.facts ≡ state_count ws
-    extent_is = p.facts.ok.0 ∙ ap length read.facts ∙ long_facts kept.measured
+    facts_are : (s : ℕ) → facts_at (vec_items p.states) s ≡ get_or (facts ws) s 0
+    facts_are s =
+        ⊎_elim
+        (λ lt. read.stated.by_facts s lt)
+        (λ ge.
+        ap (λ o. option_map_or (λ (t : State). t.facts) o 0) (slice_get_past (vec_items p.states) s (omega (arith, ge, read.stated.many)))
+        ∙ sym (get_or_past (facts ws) s 0 (omega (arith, ge, long_facts kept.measured))))
+        (cases_lt s (state_count ws))
 
-    past_first : (s : ℕ) → state_count ws < s → first_arc p s ≡ 0
-    past_first s lt = get_or_past (vec_items p.first) s 0 (omega (arith, read.long, p.first.ok.0))
-
-    arcs_are : (s : ℕ) → part (first_arc p s) (first_arc p (s + 1) - first_arc p s) (vec_items p.arcs) ≡ arcs_of ws s
+    arcs_are : (s : ℕ) → arcs_at (vec_items p.states) s ≡ arcs_of ws s
     arcs_are s =
         ⊎_elim
-        (λ lt.
-        let from = read.first s (omega (arith, lt)) in
-        let n : first_arc p (s + 1) - first_arc p s ≡ get_or (counts ws) s 0 = omega (arith, from, read.first (s + 1) (omega (arith, lt)), before_more kept.measured s lt) in
-        λ i. part (from i) (n i) (read.arcs i))
+        (λ lt. read.stated.by_arcs s lt)
         (λ ge.
-        let none : first_arc p (s + 1) - first_arc p s ≡ 0 = omega (arith, past_first (s + 1) (omega (arith, ge))) in
-        let zero_count : get_or (counts ws) s 0 ≡ 0 = get_or_past (counts ws) s 0 (omega (arith, ge, long_counts kept.measured)) in
-        ap (λ n. part (first_arc p s) n (vec_items p.arcs)) none ∙ sym (ap (λ n. part (before ws s) n (all_arcs ws)) zero_count))
+        let none : get_or (counts ws) s 0 ≡ 0 = get_or_past (counts ws) s 0 (omega (arith, ge, long_counts kept.measured)) in
+        ap (λ o. option_map_or (λ (t : State). vec_items t.arcs) o []) (slice_get_past (vec_items p.states) s (omega (arith, ge, read.stated.many)))
+        ∙ sym (ap (λ n. part (before ws s) n (all_arcs ws)) none))
         (cases_lt s (state_count ws))
 
     pub means : model_of p ≡ meant ws
     means = λ i. record {
       events = read.events i;
-      extent = extent_is i;
+      extent = read.stated.many i;
       width = read.width i;
-      system = record { facts = λ s. get_or (read.facts i) s 0; arcs = λ s. arcs_are s i; initial = read.initial i };
+      system = record { facts = λ s. facts_are s i; arcs = λ s. arcs_are s i; initial = read.initial i };
     }
 
     pub parts_lawful : Lawful (model_of p)
     parts_lawful = subst Lawful (sym means) lawful
-
-    pub long_first : vec_len p.first ≡ vec_len p.facts + 1
-    long_first = omega (arith, read.long, extent_is)
-
-    pub rising : (s : ℕ) → s < vec_len p.facts → first_arc p s ≤ first_arc p (s + 1)
-    rising s lt =
-        omega (arith, read.first s (omega (arith, lt, extent_is)), read.first (s + 1) (omega (arith, lt, extent_is)), before_le ws s (s + 1) (omega arith))
-
-    pub inside : (s : ℕ) → first_arc p s ≤ vec_len p.arcs
-    inside s =
-        let all : vec_len p.arcs ≡ arc_count ws = p.arcs.ok.0 ∙ ap length read.arcs ∙ long_arcs kept.measured in
-        ⊎_elim
-        (λ lt. omega (arith, past_first s lt))
-        (λ le. omega (arith, read.first s le, all, sum_by-take-le (λ x. x) (counts ws) s, kept.adds))
-        (cases_lt (state_count ws) s)

@@ -1,13 +1,7 @@
--- What a lookup with a default answers, and the length of a part. Assumes nothing.
-use Rattle.std.proofs.Common.{◌≡◌, ℕ, ◌+◌, ◌<◌, ◌≤◌, List, length, get_or, take, drop, Some, None, Option, unwrap_or, sym, arith, Bor}
-use Rattle.std.specs.Option.{option_map}
-use Rattle.std.specs.Slice.{IsGetResult}
-use Rattle.std.proofs.lemmas.List.{get_or_past, get_or-take, get_or-drop, length-take, length-drop}
+-- The length of a part of a list, and what stands in it. Assumes nothing.
+use Rattle.std.proofs.Common.{◌≡◌, ℕ, ◌+◌, ◌<◌, ◌≤◌, List, length, get_or, take, drop, arith}
+use Rattle.std.proofs.lemmas.List.{get_or-take, get_or-drop, length-take, length-drop}
 use Rattle.table.specs.Words.{part}
-
-pub item_or : {X : Type 0} (xs : List X) (i : ℕ) (d : X) (o : Option (Bor X)) → IsGetResult xs i i o → unwrap_or (option_map (λ x. x.now) o) d ≡ get_or xs i d
-item_or xs i d None found = sym (get_or_past xs i d found.3)
-item_or xs i d (Some x) found = found.3.1 d
 
 module _ {X : Type 0} (xs : List X) (from n : ℕ) where
   pub part_long : from + n ≤ length xs → length (part from n xs) ≡ n

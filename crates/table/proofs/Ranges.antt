@@ -3,8 +3,8 @@ use Rattle.std.proofs.Common.{◌≡◌, ℕ, ◌+◌, ◌-◌, ◌<◌, ◌≤�
 use Rattle.std.proofs.lemmas.Bool.{cases_lt}
 use Rattle.refusal.specs.Rows.{Lowest}
 use Rattle.table.specs.Words.{state_count, event_count, initial_count, arc_count, at_facts, at_counts, at_events, at_targets, part, initials, facts, counts, events, targets}
-use Rattle.table.specs.Refused.{least, most, Beyond, OutOfRange, initial, count, event, target}
-use Rattle.table.specs.Sections.{Measured, FirstBeyond}
+use Rattle.table.specs.Refused.{limits, Beyond, OutOfRange, initial, count, event, target}
+use Rattle.table.specs.Measured.{Measured, FirstBeyond}
 use Rattle.table.proofs.Lookups.{part_long, part_at}
 
 -- the sections are as long as the counts say
@@ -104,11 +104,11 @@ module _ {ws : List ℕ} (m : Measured ws) where
 
 -- S, E, I and A within their limits
 module _ {ws : List ℕ} (m : Measured ws) (i : ℕ) (lt : i < 4) where
-  pub at_least : get_or least i 0 ≤ get_or ws i 0
-  at_least = ⊎_elim (λ low. absurd (m.limits i (lt, inl low))) (λ ge. ge) (cases_lt (get_or ws i 0) (get_or least i 0))
+  pub at_least : (get_or limits i (0, 0)).0 ≤ get_or ws i 0
+  at_least = ⊎_elim (λ low. absurd (m.limits i (lt, inl low))) (λ ge. ge) (cases_lt (get_or ws i 0) (get_or limits i (0, 0)).0)
 
-  pub at_most : get_or ws i 0 ≤ get_or most i 0
-  at_most = ⊎_elim (λ high. absurd (m.limits i (lt, inr high))) (λ le. le) (cases_lt (get_or most i 0) (get_or ws i 0))
+  pub at_most : get_or ws i 0 ≤ (get_or limits i (0, 0)).1
+  at_most = ⊎_elim (λ high. absurd (m.limits i (lt, inr high))) (λ le. le) (cases_lt (get_or limits i (0, 0)).1 (get_or ws i 0))
 
 -- where nothing of a part is out of range, every word of it is below the limit
 pub low_part : (ws : List ℕ) (from n limit : ℕ) → from + n ≤ length ws → ((i : ℕ) → Beyond ws from n limit i → ⊥) → Low (part from n ws) limit

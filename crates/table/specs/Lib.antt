@@ -1,5 +1,5 @@
 pub mod Words
 pub mod Refused
 pub mod Parts
-pub mod Sections
+pub mod Measured
 pub mod Granted

@@ -1,21 +1,23 @@
--- What the parts that were read stand for. Relies on Words.
-use Rattle.std.specs.Prelude.{ℕ, ◌+◌, ◌-◌, vec_items, vec_len, slice_index}
+-- What the parts that were read stand for. Relies on plant's models.
+use Rattle.std.specs.Prelude.{ℕ, List, [], length, vec_items, slice_get}
+use Rattle.std.specs.Option.{option_map_or}
+use Rattle.meaning.specs.declared.Arc.{Arc}
 use Rattle.plant.specs.Model.{Model}
-use Rattle.table.specs.Words.{part}
 use Rattle.table.specs.declared.parts.Parts.{Parts}
+use Rattle.table.specs.declared.parts.State.{State}
 
--- where the arcs of a state begin
-abbrev pub first_arc : Parts → ℕ → ℕ
-first_arc p s = slice_index (vec_items p.first) s
+-- the facts of state s: none past the end
+abbrev pub facts_at : List State → ℕ → ℕ
+facts_at states s = option_map_or (λ (t : State). t.facts) (slice_get states s) 0
+
+-- the arcs of state s: none past the end
+abbrev pub arcs_at : List State → ℕ → List Arc
+arcs_at states s = option_map_or (λ (t : State). vec_items t.arcs) (slice_get states s) []
 
 abbrev pub model_of : Parts → Model
 model_of p = record {
   events = p.events;
-  extent = vec_len p.facts;
+  extent = length (vec_items p.states);
   width = p.width;
-  system = record {
-    facts = λ s. slice_index (vec_items p.facts) s;
-    arcs = λ s. part (first_arc p s) (first_arc p (s + 1) - first_arc p s) (vec_items p.arcs);
-    initial = vec_items p.initial;
-  };
+  system = record { facts = facts_at (vec_items p.states); arcs = arcs_at (vec_items p.states); initial = vec_items p.initial };
 }

@@ -6,15 +6,12 @@ use Rattle.meaning.specs.Systems.{no_arc}
 use Rattle.table.specs.Words.{state_count, event_count, initial_count, arc_count, at_counts, at_events, at_targets, size, initials, counts, arcs_of}
 
 -- the least and the most of S, E, I and A
-abbrev pub least : List ℕ
-least = 1 ∷ 1 ∷ 0 ∷ 0 ∷ []
-
-abbrev pub most : List ℕ
-most = 4096 ∷ 64 ∷ 16 ∷ 65536 ∷ []
+abbrev pub limits : List (ℕ × ℕ)
+limits = (1, 4096) ∷ (1, 64) ∷ (0, 16) ∷ (0, 65536) ∷ []
 
 -- S, E, I or A at place i is outside its limits
 abbrev pub OffLimits : List ℕ → ℕ → Type 0
-OffLimits ws i = (i < 4) × ((slice_index ws i < slice_index least i) ⊎ (slice_index most i < slice_index ws i))
+OffLimits ws i = (i < 4) × ((slice_index ws i < (slice_index_or limits i (0, 0)).0) ⊎ ((slice_index_or limits i (0, 0)).1 < slice_index ws i))
 
 -- place i is one of n from a place on, and its word is not below the limit
 abbrev pub Beyond : List ℕ → ℕ → ℕ → ℕ → ℕ → Type 0

@@ -1,118 +1,93 @@
 // The rules on what the arrays of a table plant hold. Relies on sections.
-ghost use Rattle.std.specs.Prelude.{◌≡◌, ℕ, ◌+◌, ◌<◌, ◌≤◌, List, length, Decides, sum, MatchOption, MatchResult, slice_index};
+ghost use Rattle.std.specs.Prelude.{◌≡◌, ℕ, ◌+◌, ◌^◌, ◌<◌, ◌≤◌, true, false, length, Decides, sum, MatchOption, MatchResult, MatchBool, slice_index};
 ghost use Rattle.refusal.specs.Rows.{First, Lowest};
 ghost use Rattle.plant.specs.Model.{Distinct};
-ghost use Rattle.table.specs.Words.{arc_count, counts as counts_of, paired, part, all_arcs};
+ghost use Rattle.table.specs.Words.{arc_count, counts as counts_of, paired};
 ghost use Rattle.table.specs.Refused.{OutOfRange, Repeated, rows};
-ghost use Rattle.table.specs.Sections.{Cut, Kept, FirstBeyond, Again};
+ghost use Rattle.table.specs.Measured.{Kept, FirstBeyond, Again, Searched};
 
-use crate::section::section;
 use crate::sections::Sections;
 use refusal::{Cause, Refusal};
 
-// The lowest place whose word is not below the limit.
-fn first_beyond(words: &[u32], limit: u32) -> Option<usize>
-    ensures { MatchOption result ((k : ℕ) → k < length words.now → slice_index words.now k < limit) (λ k. FirstBeyond words.now limit k) }
+// The lowest place whose word is not below the limit, where the first of the words stands at place `at`.
+fn first_beyond(words: &[u32], at: usize, limit: u32) -> Option<usize>
+    requires { at + length words.now < 2 ^ 64 }
+    ensures { MatchOption result ((k : ℕ) → k < length words.now → slice_index words.now k < limit) (λ place. (k : ℕ) × (place ≡ at + k) × FirstBeyond words.now limit k) }
 {
-    for (k, word) in words.iter().enumerate() {
-        if *word >= limit {
-            return Some(k);
-        }
-    }
-    None
+    words.iter().position(|word| *word >= limit).map(|k| at + k)
 }
 
-// The lowest place of an initial state that stands before it too.
+// Whether a place holds the same as one before it.
+fn stands_before<F: Fn(usize, usize) -> bool>(place: usize, same: &F) -> bool
+    requires { (j : ℕ) → j < place → F.pre same.now j place }
+    ensures { MatchBool result ((j : ℕ) × (j < place) × F.post same.now j place true) ((j : ℕ) → j < place → F.post same.now j place false) }
+{
+    (0..place).any(
+        |before|
+            requires { F.pre same.now before place }
+        { same(before, place) },
+    )
+}
+
+// The lowest of some places that holds the same as one before it.
+fn first_again<F: Fn(usize, usize) -> bool>(count: usize, same: F) -> Option<usize>
+    requires { (j k : ℕ) → j < k → k < count → F.pre same j k }
+    ensures { Searched (λ j k b. F.post same j k b) count result }
+{
+    (0..count).find(|place| stands_before(*place, &same))
+}
+
+// The lowest place of a state that stands before it too.
 fn repeated_state(states: &[u32]) -> Option<usize>
     ensures { MatchOption result (Distinct states.now) (λ k. Lowest (Again states.now) k) }
 {
-    for (k, state) in states.iter().enumerate() {
-        if states[0..k].contains(state) {
-            return Some(k);
-        }
-    }
-    None
+    first_again(states.len(), |j, k| states[j] == states[k])
 }
 
-// Whether the arc at a place, given by its event and its target, stands before it too.
-fn stands_before(events: &[u32], targets: &[u32], at: usize) -> bool
-    requires within { at < length events.now }
-    requires parallel { length targets.now ≡ length events.now }
-    ensures { Decides result (Again (paired events.now targets.now) at) }
-{
-    for k in 0..at {
-        if events[k] == events[at] && targets[k] == targets[at] {
-            return true;
-        }
-    }
-    false
-}
-
-// The lowest place of an arc that stands before it too.
+// The lowest place of an arc, given by its event and its target, that stands before it too.
 fn repeated_arc(events: &[u32], targets: &[u32]) -> Option<usize>
     requires parallel { length targets.now ≡ length events.now }
     ensures { MatchOption result (Distinct (paired events.now targets.now)) (λ k. Lowest (Again (paired events.now targets.now)) k) }
 {
-    for k in 0..events.len() {
-        if stands_before(events, targets, k) {
-            return Some(k);
-        }
-    }
-    None
+    first_again(
+        events.len(),
+        |j, k| events[j] == events[k] && targets[j] == targets[k],
+    )
+}
+
+// What some words add up to.
+fn total(words: &[u32]) -> u64
+    requires { length words.now ≤ 4096 }
+    ensures { result ≡ sum words.now }
+{
+    words.iter().map(|word| u64::from(*word)).sum()
 }
 
 impl Sections<'_> {
     // The lowest place that is out of range.
     fn out_of_range(&self) -> Option<usize>
-        requires { Cut self.now.words.now self.now }
         ensures { MatchOption result ((i : ℕ) → OutOfRange self.now.words.now i → ⊥) (λ i. Lowest (OutOfRange self.now.words.now) i) }
     {
         let states = self.words[0];
-        if let Some(k) = first_beyond(self.initial, states) {
-            return Some(4 + k);
-        }
         let at_counts = 4 + self.initial.len() + self.facts.len();
-        if let Some(k) = first_beyond(self.counts, 17) {
-            return Some(at_counts + k);
-        }
         let at_events = at_counts + self.counts.len();
-        if let Some(k) = first_beyond(self.events, self.words[1]) {
-            return Some(at_events + k);
-        }
         let at_targets = at_events + self.events.len();
-        match first_beyond(self.targets, states) {
-            Some(k) => Some(at_targets + k),
-            None => None,
-        }
+        first_beyond(self.initial, 4, states)
+            .or_else(|| first_beyond(self.counts, at_counts, 17))
+            .or_else(|| first_beyond(self.events, at_events, self.words[1]))
+            .or_else(|| first_beyond(self.targets, at_targets, states))
     }
 
     // Whether the arc counts add up to A.
     fn adds_up(&self) -> bool
-        requires { Cut self.now.words.now self.now }
         ensures { Decides result (sum (counts_of self.now.words.now) ≡ arc_count self.now.words.now) }
     {
-        let mut sum = 0usize;
-        for count in self.counts {
-            sum += *count as usize;
-        }
-        sum == self.events.len()
-    }
-
-    // Of some arcs from one on, the lowest that stands among them before it too, counted from there.
-    fn repeated_from(&self, from: usize, count: usize) -> Option<usize>
-        requires cut { Cut self.now.words.now self.now }
-        requires within { from + count ≤ arc_count self.now.words.now }
-        ensures { MatchOption result (Distinct (part from count (all_arcs self.now.words.now))) (λ k. Lowest (Again (part from count (all_arcs self.now.words.now))) k) }
-    {
-        let events = section(self.events, from, count);
-        let targets = section(self.targets, from, count);
-        repeated_arc(events, targets)
+        total(self.counts) == u64::from(self.words[3])
     }
 
     // The lowest place of an initial state, or of the event of an arc, that stands before it too.
     fn repeated(&self) -> Option<usize>
-        requires cut { Cut self.now.words.now self.now }
-        requires adds { sum (counts_of self.now.words.now) ≡ arc_count self.now.words.now }
+        requires { sum (counts_of self.now.words.now) ≡ arc_count self.now.words.now }
         ensures { MatchOption result ((i : ℕ) → Repeated self.now.words.now i → ⊥) (λ i. Lowest (Repeated self.now.words.now) i) }
     {
         if let Some(k) = repeated_state(self.initial) {
@@ -121,11 +96,11 @@ impl Sections<'_> {
         let at_events = self.words.len() - 2 * self.events.len();
         let mut from = 0;
         for count in self.counts {
-            let count = *count as usize;
-            if let Some(k) = self.repeated_from(from, count) {
+            let end = from + *count as usize;
+            if let Some(k) = repeated_arc(&self.events[from..end], &self.targets[from..end]) {
                 return Some(at_events + (from + k));
             }
-            from += count;
+            from = end;
         }
         None
     }
@@ -133,7 +108,7 @@ impl Sections<'_> {
 
 // The arrays of words that keep every rule, or the first rule that they break.
 pub(crate) fn checked(words: &[u32]) -> Result<Sections<'_>, Refusal>
-    ensures { MatchResult result (λ t. Kept words.now × Cut words.now t) (λ e. First (rows words.now) e) }
+    ensures { MatchResult result (λ t. Kept words.now × (t.words.now ≡ words.now)) (λ e. First (rows words.now) e) }
 {
     let table = Sections::cut(words)?;
     if let Some(place) = table.out_of_range() {

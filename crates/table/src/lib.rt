@@ -5,6 +5,5 @@ mod checks;
 pub mod parts;
 mod questions;
 mod reading;
-mod section;
 mod sections;
 pub mod table;

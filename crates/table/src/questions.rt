@@ -1,39 +1,41 @@
 // What a table plant answers: each in constant time. Relies on table.
-ghost use Rattle.std.specs.Prelude.{◌≡◌, length};
-ghost use Rattle.plant.specs.Model.{Lawful};
+ghost use Rattle.std.specs.Prelude.{◌≡◌, slice_get};
+ghost use Rattle.std.specs.Option.{option_map};
 ghost use Rattle.table.specs.Parts.{model_of};
 
-use crate::section::section;
+use crate::parts::State;
 use crate::table::TablePlant;
 use meaning::Arc;
-use plant::Plant;
+use plant::{PAST_ARC, Plant};
 
 impl TablePlant {
+    // The state with a number: none at or beyond the extent.
+    fn state(&self, state: u32) -> Option<&State>
+        ensures { option_map (λ t. t.now) result ≡ slice_get self.now.parts.states.items state }
+    {
+        // no `From` widens to the machine's size
+        self.parts.states.get(state as usize)
+    }
+
     // The arcs of a state: none at or beyond the extent.
     fn arcs_of(&self, state: u32) -> &[Arc]
         ensures { result.now ≡ (model_of self.now.parts).system.arcs state }
     {
-        let state = state as usize;
-        if state >= self.parts.facts.len() {
-            return &[];
-        }
-        let from = self.parts.first[state];
-        let count = self.parts.first[state + 1] - from;
-        section(self.parts.arcs.as_slice(), from, count)
+        self.state(state).map_or(&[], |state| state.arcs.as_slice())
     }
 }
 
 impl Plant for TablePlant {
     ghost model = { λ p. model_of p.parts };
 
-    ghost lawful = { λ p. record { limits = p.limits; begins = p.begins; branches = p.branches; leads = p.leads; ends = p.ends } };
+    ghost lawful = { λ p. p.lawful };
 
     fn events(&self) -> u8 {
         self.parts.events
     }
 
     fn extent(&self) -> u64 {
-        self.parts.facts.len() as u64
+        self.parts.states.len() as u64
     }
 
     fn width(&self) -> u8 {
@@ -49,7 +51,7 @@ impl Plant for TablePlant {
     }
 
     fn facts(&self, state: u32) -> u32 {
-        self.parts.facts.get(state as usize).copied().unwrap_or(0)
+        self.state(state).map_or(0, |state| state.facts)
     }
 
     fn arc_count(&self, state: u32) -> u8 {
@@ -57,10 +59,6 @@ impl Plant for TablePlant {
     }
 
     fn arc(&self, state: u32, index: usize) -> Arc {
-        let past = Arc {
-            event: 64,
-            target: 0,
-        };
-        self.arcs_of(state).get(index).copied().unwrap_or(past)
+        self.arcs_of(state).get(index).copied().unwrap_or(PAST_ARC)
     }
 }

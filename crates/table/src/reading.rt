@@ -1,5 +1,5 @@
 // Reading a table plant from words. Relies on checks and table.
-ghost use Rattle.std.specs.Prelude.{◌≡◌, ℕ, ◌+◌, ◌<◌, ◌≤◌, List, length, take, IfOk, Err, vec_len, sum, MatchResult, slice_index};
+ghost use Rattle.std.specs.Prelude.{◌≡◌, ◌+◌, ◌<◌, IfOk, Err, MatchResult};
 ghost use Rattle.refusal.specs.Rows.{First};
 ghost use Rattle.refusal.specs.declared.Refusal.{Refusal as Given};
 ghost use Rattle.plant.specs.Making.{Failed};
@@ -7,11 +7,12 @@ ghost use Rattle.plant.specs.declared.Failure.TheVariants.{Refused as ByRule};
 ghost use Rattle.table.specs.Words.{largest, paired};
 ghost use Rattle.table.specs.Refused.{rows};
 ghost use Rattle.table.specs.Parts.{model_of};
-ghost use Rattle.table.specs.Sections.{Cut, Kept};
-ghost use Rattle.table.specs.Granted.{Granted, Read};
+ghost use Rattle.table.specs.Measured.{Kept};
+ghost use Rattle.table.specs.Granted.{Granted, Read, Stated};
+ghost use Rattle.std.specs.List.{All};
 
 use crate::checks::checked;
-use crate::parts::Parts;
+use crate::parts::{Parts, State};
 use crate::sections::Sections;
 use crate::table::TablePlant;
 use meaning::Arc;
@@ -22,61 +23,56 @@ use std::alloc::{AllocError, Global};
 fn most(words: &[u32]) -> u32
     ensures { result ≡ largest words.now }
 {
-    let mut most = 0u32;
-    for word in words {
-        most = most.max(*word);
-    }
-    most
-}
-
-// Where the arcs of each state begin, and where those of the last end.
-fn offsets(heap: Global, counts: &[u32]) -> Result<Vec<usize>, AllocError>
-    requires few { (((k : ℕ) → k < length counts.now → slice_index counts.now k < 17)) × (length counts.now ≤ 4096) }
-    ensures { IfOk result (λ v. (vec_len v ≡ length counts.now + 1) × ((s : ℕ) → s ≤ length counts.now → slice_index v.items s ≡ sum (take s counts.now))) }
-{
-    let mut first = Vec::new(heap);
-    first.push(0)?;
-    let mut end = 0usize;
-    for count in counts {
-        end += *count as usize;
-        first.push(end)?;
-    }
-    Ok(first)
+    words.iter().copied().max().unwrap_or(0)
 }
 
 // The arcs that two parallel arrays say.
 fn arcs(heap: Global, events: &[u32], targets: &[u32]) -> Result<Vec<Arc>, AllocError>
-    requires parallel { length targets.now ≡ length events.now }
-    requires few { (k : ℕ) → k < length events.now → slice_index events.now k < 64 }
+    requires { All (λ event. event < 64) events.now }
     ensures { IfOk result (λ v. v.items ≡ paired events.now targets.now) }
 {
-    let mut arcs = Vec::new(heap);
-    for k in 0..events.len() {
-        arcs.push(Arc {
-            event: events[k] as u8,
-            target: targets[k],
-        })?;
-    }
-    Ok(arcs)
+    events
+        .iter()
+        .zip(targets)
+        .map(|(event, target)| Arc {
+            event: *event as u8,
+            target: *target,
+        })
+        .collect(heap)
 }
 
 impl Sections<'_> {
+    // The states that the words say, owned.
+    fn states(&self, heap: Global) -> Result<Vec<State>, AllocError>
+        requires { Kept self.now.words.now }
+        ensures { IfOk result (λ v. Stated self.now.words.now v.items) }
+    {
+        let mut states = Vec::with_capacity(heap, self.facts.len())?;
+        let mut from = 0;
+        for (facts, count) in self.facts.iter().zip(self.counts) {
+            let end = from + *count as usize;
+            let arcs = arcs(heap, &self.events[from..end], &self.targets[from..end])?;
+            states.push(State {
+                facts: *facts,
+                arcs,
+            })?;
+            from = end;
+        }
+        Ok(states)
+    }
+
     // The parts that the words say, owned.
     fn read(&self, heap: Global) -> Result<Parts, AllocError>
-        requires { (Kept self.now.words.now) × (Cut self.now.words.now self.now) }
+        requires { Kept self.now.words.now }
         ensures { IfOk result (λ p. Read self.now.words.now p) }
     {
         let initial = Vec::from_slice(heap, self.initial)?;
-        let facts = Vec::from_slice(heap, self.facts)?;
-        let first = offsets(heap, self.counts)?;
-        let arcs = arcs(heap, self.events, self.targets)?;
+        let states = self.states(heap)?;
         Ok(Parts {
             events: self.words[1] as u8,
             width: most(self.counts) as u8,
             initial,
-            facts,
-            first,
-            arcs,
+            states,
         })
     }
 }

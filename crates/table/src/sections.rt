@@ -1,12 +1,13 @@
-// A table plant's words, cut into their arrays. Relies on section.
+// A table plant's words, cut into their arrays. Relies on refusal.
 ghost use Rattle.std.specs.Prelude.{◌≡◌, ℕ, ◌≤◌, length, MatchOption, MatchResult};
 ghost use Rattle.refusal.specs.Rows.{First, Lowest};
+ghost use Rattle.table.specs.Words.{initials, facts as facts_in, counts as counts_in, events as events_in, targets as targets_in};
 ghost use Rattle.table.specs.Refused.{OffLimits, rows};
-ghost use Rattle.table.specs.Sections.{Cut};
+ghost use Rattle.table.specs.Measured.{Measured};
 
-use crate::section::section;
 use refusal::{Cause, Refusal};
 
+// The arrays are those that the words say, and the words are as many as they say.
 #[derive(Clone, Copy)]
 pub struct Sections<'a> {
     // all the words
@@ -16,54 +17,56 @@ pub struct Sections<'a> {
     pub counts: &'a [u32],
     pub events: &'a [u32],
     pub targets: &'a [u32],
+    ghost measured: { Measured words.now },
+    ghost by_initial: { initial.now ≡ initials words.now },
+    ghost by_facts: { facts.now ≡ facts_in words.now },
+    ghost by_counts: { counts.now ≡ counts_in words.now },
+    ghost by_events: { events.now ≡ events_in words.now },
+    ghost by_targets: { targets.now ≡ targets_in words.now },
 }
 
 // The least and the most of S, E, I and A.
-const LEAST: [u32; 4] = [1, 1, 0, 0];
-
-const MOST: [u32; 4] = [4096, 64, 16, 65536];
+const LIMITS: [(u32, u32); 4] = [(1, 4096), (1, 64), (0, 16), (0, 65536)];
 
 // The lowest of the first four words that is outside its limits.
 fn off_limits(words: &[u32]) -> Option<usize>
     requires { 4 ≤ length words.now }
     ensures { MatchOption result ((i : ℕ) → OffLimits words.now i → ⊥) (λ i. Lowest (OffLimits words.now) i) }
 {
-    for i in 0..4 {
-        if words[i] < LEAST[i] || words[i] > MOST[i] {
-            return Some(i);
-        }
-    }
-    None
+    words
+        .iter()
+        .zip(LIMITS.iter())
+        .position(|(word, (least, most))| *word < *least || *word > *most)
 }
 
 impl<'a> Sections<'a> {
     // The arrays, or the refusal of counts that are outside their limits or do not fit the words.
     pub(crate) fn cut(words: &'a [u32]) -> Result<Sections<'a>, Refusal>
-        ensures { MatchResult result (λ t. Cut words.now t) (λ e. First (rows words.now) e) }
+        ensures { MatchResult result (λ t. t.words.now ≡ words.now) (λ e. First (rows words.now) e) }
     {
-        if words.len() < 4 {
+        let [states, _, initial, arcs, arrays @ ..] = words else {
             return Err(Cause::PlantLength.at(0));
-        }
+        };
         if let Some(place) = off_limits(words) {
             return Err(Cause::PlantLimit.at(place));
         }
-        let states = words[0] as usize;
-        let initial = words[2] as usize;
-        let arcs = words[3] as usize;
-        let at_facts = 4 + initial;
-        let at_counts = at_facts + states;
-        let at_events = at_counts + states;
-        let at_targets = at_events + arcs;
-        if words.len() != at_targets + arcs {
+        let states = *states as usize;
+        let arcs = *arcs as usize;
+        let initial = *initial as usize;
+        if arrays.len() != initial + 2 * states + 2 * arcs {
             return Err(Cause::PlantLength.at(0));
         }
+        let (initial, rest) = arrays.split_at(initial);
+        let (facts, rest) = rest.split_at(states);
+        let (counts, rest) = rest.split_at(states);
+        let (events, targets) = rest.split_at(arcs);
         Ok(Sections {
             words,
-            initial: section(words, 4, initial),
-            facts: section(words, at_facts, states),
-            counts: section(words, at_counts, states),
-            events: section(words, at_events, arcs),
-            targets: section(words, at_targets, arcs),
+            initial,
+            facts,
+            counts,
+            events,
+            targets,
         })
     }
 }

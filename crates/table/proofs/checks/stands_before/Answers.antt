@@ -1,17 +1,13 @@
-use Rattle.std.proofs.Common.{◌≡◌, ℕ, refl, arith}
-use Rattle.table.proofs.Repeats.{arc_again, arc_before}
+use Rattle.std.proofs.Common.{true, false, rules, refl}
+use native.Mathlib.Nat.{sub-zero}
+use Rattle.std.proofs.lemmas.Iterator.{cases_from_any, serves_from_Range, YieldsList-from_range}
+use Rattle.table.proofs.Repeats.{any_below}
 use Rattle.table.proofs.checks.stands_before.Goals as goal
 
-pub returns-then-targets-k : goal.returns-then-targets-k
-returns-then-targets-k c = (
-  λ _. arc_again c.args.events.now c.args.targets.now c.requires.parallel c.args.at c.requires.within c.loop-k.k c.loop-k-test.true c.if-events-k.true c.if-targets-k.true,
-  λ _. refl,
-)
+pub any-requires-clause-callable : goal.any-requires-clause-callable
+any-requires-clause-callable g c = serves_from_Range (λ x q k. search rules) (λ x low high. search rules)
 
 pub returns : goal.returns
-returns c = (
-  λ no. let z : ◌≡◌ {A = ℕ} 0 1 = cc in absurd (omega arith),
-  λ again.
-      let b = arc_before c.args.events.now c.args.targets.now c.requires.parallel c.args.at c.requires.within again in
-      absurd (c.loop-k.invariant b.0 (omega (arith, b.1, c.loop-k-test.false)) (b.2, b.3)),
-)
+returns g c =
+    any_below c.args.place c.any.result (λ j. goal.F-post g c.args.same.now j c.args.place true) (λ j. goal.F-post g c.args.same.now j c.args.place false)
+    (cases_from_any _ _ c.any.result (λ j. goal.F-post g c.args.same.now j c.args.place true) (λ j. goal.F-post g c.args.same.now j c.args.place false) c.any.ensures.ran (YieldsList-from_range 0 c.args.place c.args.place refl (sub-zero c.args.place)) (λ x q k. search rules) (λ x q k. search rules))

@@ -1,13 +1,16 @@
-use Rattle.std.proofs.Common.{max, get_or, sym, ap, ◌∙◌}
-use Rattle.std.proofs.lemmas.List.{take_all}
-use Rattle.std.proofs.lemmas.List.Sums.{fold_more}
+use Rattle.std.proofs.Common.{◌≡◌, ℕ, List, [], ◌∷◌, max, unwrap_or, fold, ap, ◌∙◌, refl, sym, arith}
+use Rattle.std.specs.List.{reduce}
+use Rattle.std.proofs.lemmas.Iterator.Adapters.{option_map_id}
+use Rattle.std.proofs.lemmas.Iterator.{YieldsList-from_slice}
+use Rattle.std.proofs.lemmas.Iterator.Consumers.{max_from_yields_List, YieldsList-from_copied, YieldsList-at}
 use Rattle.table.specs.Words.{largest}
 use Rattle.table.proofs.reading.most.Goals as goal
 
-pub loop-word-preserved : goal.loop-word-preserved
-loop-word-preserved c =
-    c.max-most.ensures ∙ ap (λ m. max m (get_or c.args.words.now c.loop-word.word-index 0)) c.loop-word.invariant
-    ∙ sym (fold_more max 0 c.args.words.now c.loop-word.word-index 0 c.loop-word-test.true)
+largest_is : (xs : List ℕ) → unwrap_or (reduce max xs) 0 ≡ largest xs
+largest_is [] = refl
+largest_is (x ∷ xs) = ap (λ m. fold max m xs) (omega arith)
 
 pub returns : goal.returns
-returns c = c.loop-word.invariant ∙ ap largest (take_all _ c.args.words.now c.loop-word-test.false)
+returns c =
+    let top = max_from_yields_List _ c.max.result c.max.ensures.ran (YieldsList-from_copied (YieldsList-at c.copied.ensures.source (YieldsList-from_slice c.args.words.now cc))) in
+    c.unwrap_or.ensures ∙ ap (λ o. unwrap_or o 0) (sym (option_map_id c.max.result) ∙ top) ∙ largest_is c.args.words.now

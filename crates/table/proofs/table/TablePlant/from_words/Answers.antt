@@ -7,7 +7,7 @@ use Rattle.table.specs.Parts.{model_of}
 use Rattle.table.specs.Refused.{rows}
 use Rattle.table.specs.Granted.{Granted, Read}
 use Rattle.table.specs.declared.table.TablePlant.{TablePlant}
-use Rattle.table.proofs.Laws.{clear, means, parts_lawful, long_first, rising, inside}
+use Rattle.table.proofs.Laws.{clear, means, parts_lawful}
 use Rattle.table.proofs.Outcome.{refused_only, clear_only}
 use Rattle.table.proofs.table.TablePlant.from_words.Goals as goal
 
@@ -35,23 +35,13 @@ returns-in_err-parts c =
 pub invariant_of-result : goal.invariant_of-result
 invariant_of-result c =
     let kept = c.in_ok-sections.ensures.0 in
-    let read = subst (λ ws. Read ws c.in_ok-parts.parts) c.in_ok-sections.ensures.1.words c.in_ok-parts.ensures in
-    let l = parts_lawful kept read in
-    record {
-      limits = l.limits;
-      begins = l.begins;
-      branches = l.branches;
-      leads = l.leads;
-      ends = l.ends;
-      long = long_first kept read;
-      rising = rising kept read;
-      inside = inside kept read;
-    }
+    let read = subst (λ ws. Read ws c.in_ok-parts.parts) c.in_ok-sections.ensures.1 c.in_ok-parts.ensures in
+    record { lawful = parts_lawful kept read }
 
 pub returns : goal.returns
 returns c =
     let kept = c.in_ok-sections.ensures.0 in
-    let read = subst (λ ws. Read ws c.in_ok-parts.parts) c.in_ok-sections.ensures.1.words c.in_ok-parts.ensures in
+    let read = subst (λ ws. Read ws c.in_ok-parts.parts) c.in_ok-sections.ensures.1 c.in_ok-parts.ensures in
     record {
       answer = record { clear = clear kept; means = means kept read; lawful = parts_lawful kept read };
       only = clear_only c.args.words.now _ (clear kept);

@@ -1,5 +1,0 @@
-use Rattle.std.proofs.Common.{length}
-use Rattle.rule.proofs.states.+extent.Given as goal
-
-abbrev pub decreases-extent : goal.decreases-extent
-decreases-extent l = length l.sizes.now

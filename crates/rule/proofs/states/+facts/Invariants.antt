@@ -1,5 +1,0 @@
-use Rattle.std.proofs.Common.{length}
-use Rattle.rule.proofs.states.+facts.Given as goal
-
-abbrev pub decreases-facts : goal.decreases-facts
-decreases-facts l = length l.sizes.now

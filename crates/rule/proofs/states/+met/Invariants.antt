@@ -1,5 +1,0 @@
-use Rattle.std.proofs.Common.{length}
-use Rattle.rule.proofs.states.+met.Given as goal
-
-abbrev pub decreases-met : goal.decreases-met
-decreases-met l = length l.sizes.now

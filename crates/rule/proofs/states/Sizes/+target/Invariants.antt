@@ -1,0 +1,5 @@
+use Rattle.std.proofs.Common.{length}
+use Rattle.rule.proofs.states.Sizes.+target.Given as goal
+
+abbrev pub decreases-target : goal.decreases-target
+decreases-target l = length l.self.now.sizes.now
