@@ -8,6 +8,7 @@ use replies::lines::run;
 use std::io;
 use std::io::{BufWriter, Read, Write};
 
+// The same in each program: a program is its words and its main.
 fn main(rt: HostRuntime) -> io::Result<()> {
     let heap = rt.alloc();
     let mut script = Vec::new(heap);

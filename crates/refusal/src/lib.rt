@@ -61,7 +61,7 @@ pub struct Refusal {
 }
 
 impl Cause {
-    // The number by which a planner knows the rule.
+    // The number by which a planner knows the rule, as it is printed.
     pub fn number(self) -> u8
         ensures { result ≡ number_of self }
     {

@@ -19,7 +19,7 @@ pub(crate) struct Sections<'a> {
     ghost by_sets: { sets.now ≡ all_sets words.now },
 }
 
-// The word for any value in a need, and for no change in a set.
+// The word for any value in a need, and for no change in a set: the format's own number, which is `None` once it is read.
 pub(crate) const ANY: u32 = 255;
 
 // Whether each size is 1 to 16.

@@ -58,6 +58,7 @@ fn goes_on(arcs: &[Arc], run: &Run, place: usize) -> bool
 {
     match run.next_place(place) {
         Some(next) => bears(arcs, run.events[place], run.states[next]),
+        // 64 is how lent arrays write that no event is taken
         None => arcs.is_empty() && run.events[place] == 64,
     }
 }
@@ -101,6 +102,7 @@ impl<P: Plant> Known<'_, P> {
     pub(crate) fn run_stands(&self, run: &Run) -> Result<(), Refusal>
         ensures { MatchResult result (λ _. (i : ℕ) → Bad (opens self.now.book.now) (view self.now.book.now (P.Plant.model self.now.plant.now)) (lent_run run.now) i → ⊥) (λ e. (i : ℕ) × Lowest (Bad (opens self.now.book.now) (view self.now.book.now (P.Plant.model self.now.plant.now)) (lent_run run.now)) i × Faulty (opens self.now.book.now) (view self.now.book.now (P.Plant.model self.now.plant.now)) (lent_run run.now) i e) }
     {
+        // by place: a refusal names the place
         for place in 0..run.states.len() {
             self.place_stands(run, place)?;
         }

@@ -1,5 +1,5 @@
 -- What a reader has read. Inner contracts cite it, and no promise to a caller does. Assumes nothing.
-use Rattle.std.specs.Prelude.{◌≡◌, ℕ, ◌+◌, ◌<◌, List, [], ◌∷◌, ◌++◌, length, drop}
+use Rattle.std.specs.Prelude.{◌≡◌, ℕ, ◌+◌, ◌-◌, ◌<◌, ◌≤◌, ◌⊎◌, List, [], ◌∷◌, ◌++◌, length, drop}
 use Rattle.draft.specs.declared.draft.Draft.{Draft}
 use Rattle.draft.specs.Drafts.{Adds}
 use Rattle.formula.specs.Table.{table}
@@ -26,6 +26,20 @@ pub record Char (r r' : Reader) (c : ℕ) : Type 0 where
 pub record Ended (r : Reader) (e : Fault) : Type 0 where
   pub none : left r ≡ []
   pub short : e ≡ End
+
+-- what comes next, if anything does, is no digit
+abbrev pub NoDigit : List ℕ → Type 0
+NoDigit [] = Unit {0}
+NoDigit (c ∷ s) = (c < 48) ⊎ (57 < c)
+
+-- d is the digit that comes next
+pub record Digit (s : List ℕ) (d : ℕ) : Type 0 where
+  pub code : ℕ
+  pub rest : List ℕ
+  pub text : s ≡ code ∷ rest
+  pub low : 48 ≤ code
+  pub high : code ≤ 57
+  pub is : d ≡ code - 48
 
 -- the parts ys, which are s, have been read, and whatever is to follow them comes out as it would have
 pub record Took (ys : List Part) (r r' : Reader) (s : List ℕ) : Type 0 where

@@ -1,14 +1,14 @@
 // Characters, signs and numbers of a text.
-ghost use Rattle.std.specs.Prelude.{◌≡◌, ◌<◌, [], ◌∷◌, MatchResult};
+ghost use Rattle.std.specs.Prelude.{◌≡◌, ◌<◌, [], ◌∷◌, MatchOption, MatchResult};
 ghost use Rattle.grammar.specs.Machine.{op, num, lit};
 ghost use Rattle.grammar.specs.Phrases.{digits, sign, strict};
-ghost use Rattle.text.specs.Spelled.{Char, Ended, Took, Failed};
+ghost use Rattle.text.specs.Spelled.{left, Char, Ended, Took, Failed, NoDigit, Digit};
 
 use crate::reader::Reader;
 use grammar::{Fault, Joint, Name};
 
 // How many facts or events there are.
-fn limit(name: Name) -> u8
+fn limit(name: Name) -> u32
     ensures { result ≡ strict name }
 {
     match name {
@@ -53,28 +53,30 @@ impl Reader<'_> {
         }
     }
 
+    // The digit that comes next, if one does; it is not read yet.
+    fn digit(&self) -> Option<u32>
+        ensures { MatchOption result (NoDigit (left self.now)) (λ d. Digit (left self.now) d) }
+    {
+        char::from(*self.text.get(self.at)?).to_digit(10)
+    }
+
     // `0`, or a digit 1 to 9 with at most one digit after it.
     pub(crate) fn number(&mut self, name: Name) -> Result<u8, Fault>
         ensures { MatchResult result (λ n. (n < strict name) × Took (num name ∷ []) self.old self.new (digits n)) (λ e. Failed (num name ∷ []) self.old e) }
     {
         let place = self.at;
-        let tens = self.next()?;
-        if tens < '0' || tens > '9' {
-            return Err(Fault::Byte(place));
+        let tens = self.next()?.to_digit(10).ok_or(Fault::Byte(place))?;
+        if tens == 0 {
+            return Ok(0);
         }
-        let tens = tens as u8 - b'0';
-        if tens == 0 || self.at >= self.text.len() {
-            return Ok(tens);
-        }
-        let ones = self.text[self.at];
-        if ones < b'0' || ones > b'9' {
-            return Ok(tens);
-        }
-        let n = tens * 10 + (ones - b'0');
+        let Some(ones) = self.digit() else {
+            return Ok(tens as u8);
+        };
+        let n = tens * 10 + ones;
         if n >= limit(name) {
             return Err(Fault::Number(place));
         }
         self.at += 1;
-        Ok(n)
+        Ok(n as u8)
     }
 }

@@ -1,10 +1,12 @@
-use Rattle.std.proofs.Common.{eqb, ◌∙◌, rules}
-use Rattle.std.proofs.lemmas.Iterator.{YieldsList-from_slice}
-use Rattle.std.proofs.lemmas.Iterator.Search.{any_from_yields_List}
-use Rattle.rows.proofs.Bearing.{any_bears}
+use Rattle.std.proofs.Common.{sym, below_more}
+use Rattle.rows.proofs.Bearing.{bears_here, bears_nowhere}
 use Rattle.rows.proofs.cells.enabled.Goals as goal
 
+pub loop-arc-preserved : goal.loop-arc-preserved
+loop-arc-preserved c = below_more _ _ c.loop-arc.invariant c.if-arc-event.false
+
+pub returns-then-arc-event : goal.returns-then-arc-event
+returns-then-arc-event c = sym (bears_here c.args.event c.args.arcs.now c.loop-arc.arc-index c.loop-arc-test.true c.if-arc-event.true)
+
 pub returns : goal.returns
-returns c =
-    any_from_yields_List (λ x. eqb x.event c.args.event) _ _ _ c.any.ensures.ran (YieldsList-from_slice c.args.arcs.now cc) (λ x b q k. search rules)
-    ∙ any_bears c.args.event c.args.arcs.now
+returns c = sym (bears_nowhere c.args.event c.args.arcs.now (λ i lt e. c.loop-arc.invariant i (native.Mathlib.Nat.lt_of_lt_of_le lt c.loop-arc-test.false) e))
