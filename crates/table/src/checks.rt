@@ -22,6 +22,7 @@ fn stands_before<F: Fn(usize, usize) -> bool>(place: usize, same: &F) -> bool
     requires { (j : ℕ) → j < place → F.pre same.now j place }
     ensures { MatchBool result ((j : ℕ) × (j < place) × F.post same.now j place true) ((j : ℕ) → j < place → F.post same.now j place false) }
 {
+    // left out, the closure's `requires` would be that `same` may be called at any places
     (0..place).any(
         |before|
             requires { F.pre same.now before place }

@@ -6,13 +6,11 @@ use Rattle.rule.specs.Read.{Reads}
 use Rattle.rule.proofs.Sense.{few, filled, ranged, clear, granted, one, not_refused}
 use Rattle.rule.proofs.rule.RulePlant.from_words.Goals as goal
 
-pub returns-in_err-sections : goal.returns-in_err-sections
-returns-in_err-sections c =
-    let ws = c.args.words.now in
-    let d = c.in_err-sections.field-0.0 in
+pub returns-in_err-sections-clause-only : goal.returns-in_err-sections-clause-only
+returns-in_err-sections-clause-only c =
     let first = c.in_err-sections.ensures in
     let q = err_from_is_err_and c.from_residual.result c.from_residual.ensures.1 in
-    rw (q.1, q.2) (record { answer = first; only = λ e f. ap (λ d. Err (Refused d)) (one ws d e first f) })
+    rw (q.1, q.2) (λ e f. ap (λ d. Err (Refused d)) (one c.args.words.now c.in_err-sections.field-0.0 e first f))
 
 pub read-requires : goal.read-requires
 read-requires c = subst (λ (ws : List ℕ). (i : ℕ) → Foreign ws i → ⊥) (sym c.in_ok-sections.ensures.1) c.in_ok-sections.ensures.0

@@ -1,20 +1,20 @@
-use Rattle.std.proofs.Common.{◌≡◌, ◌+◌, ◌*◌, ◌≤◌, length, get_or, take, drop, sym, refl, ap, ◌∙◌, arith, rules, tests}
+use Rattle.std.proofs.Common.{◌≡◌, ℕ, ◌-◌, ◌+◌, ◌*◌, ◌≤◌, List, length, get_or, take, drop, sym, refl, ap, ◌∙◌, arith, rules, tests}
 use Rattle.std.proofs.lemmas.List.{take_rest, take_all, length-drop, drop-drop}
 use Rattle.rule.specs.Words.{variables, rules as rules_in}
 use Rattle.rule.proofs.sections.Sections.cut.Goals as goal
 
--- what is left behind the sizes, and behind the needs
-rows : (c : goal.After-sets-1) → c.split_at.result.1.now ≡ drop (2 + variables c.args.words.now) c.args.words.now
-rows c = c.split_at.ensures.back ∙ ap (drop (variables c.args.words.now)) (take_rest c.args.words.now 2) ∙ drop-drop (variables c.args.words.now) 2 c.args.words.now
+-- what is left behind the sizes
+rows : (ws left : List ℕ) → left ≡ drop (variables ws) (take (length ws - 2) (drop 2 ws)) → left ≡ drop (2 + variables ws) ws
+rows ws left is = is ∙ ap (drop (variables ws)) (take_rest ws 2) ∙ drop-drop (variables ws) 2 ws
 
 pub invariant_of-result-clause-by_needs : goal.invariant_of-result-clause-by_needs
-invariant_of-result-clause-by_needs c = c.split_at-2.ensures.front ∙ ap (take (rules_in c.args.words.now * variables c.args.words.now)) (rows c)
+invariant_of-result-clause-by_needs c = c.split_at-2.ensures.front ∙ ap (take (rules_in c.args.words.now * variables c.args.words.now)) (rows c.args.words.now c.split_at.result.1.now c.split_at.ensures.back)
 
 pub invariant_of-result-clause-by_sets : goal.invariant_of-result-clause-by_sets
 invariant_of-result-clause-by_sets c =
     let ws = c.args.words.now in
     let count = rules_in ws * variables ws in
-    c.split_at-2.ensures.back ∙ ap (drop count) (rows c) ∙ drop-drop count (2 + variables ws) ws
+    c.split_at-2.ensures.back ∙ ap (drop count) (rows c.args.words.now c.split_at.result.1.now c.split_at.ensures.back) ∙ drop-drop count (2 + variables ws) ws
     ∙ sym (take_all count (drop (2 + variables ws + count) ws) (omega (arith, length-drop (2 + variables ws + count) ws, length-drop 2 ws, c.if-rest-variables.false)))
 
 pub invariant_of-result-clause-shaped : goal.invariant_of-result-clause-shaped

@@ -7,7 +7,7 @@ use Rattle.table.specs.Measured.{Again}
 use Rattle.table.specs.declared.sections.Sections.{Sections}
 use Rattle.table.proofs.Apart.{before, lowest_arc, lowest_initial, none_repeated}
 use Rattle.table.proofs.Ranges.{long_counts, long_events}
-use Rattle.table.proofs.States.{state, within, more, small, inside, same_length, arcs_are, among}
+use Rattle.table.proofs.States.{state, within, more, small, inside, arcs_are, among}
 use Rattle.table.proofs.sections.Sections.repeated.Goals as goal
 
 -- where the events begin
@@ -24,20 +24,8 @@ returns-in-Some c =
     let t = c.args.self.now in
     lowest_initial t.measured c.in-Some.k (subst (λ xs. Lowest (Again xs) c.in-Some.k) t.by_initial c.in-Some.ensures)
 
-pub overflow_sub-at_events : goal.overflow_sub-at_events
-overflow_sub-at_events c =
-    let t = c.args.self.now in
-    omega (arith, t.measured.long, ap length t.by_events, long_events t.measured)
-
-pub overflow_add-end : goal.overflow_add-end
-overflow_add-end c = omega (arith, small c.args.self.now c.requires c.loop-count.count-index c.loop-count.from _ c.loop-count-test.true refl c.loop-count.invariant.0)
-
 pub slice_bounds-repeated_arc-end : goal.slice_bounds-repeated_arc-end
 slice_bounds-repeated_arc-end c = omega (arith, inside c.args.self.now c.requires c.loop-count.count-index c.loop-count.from _ c.loop-count-test.true refl c.loop-count.invariant.0)
-
-pub repeated_arc-requires : goal.repeated_arc-requires
-repeated_arc-requires c =
-    record { parallel = same_length c.args.self.now c.requires c.loop-count.count-index c.loop-count.from _ c.loop-count-test.true refl c.loop-count.invariant.0 }
 
 pub overflow_add-result-in-Some-repeated_arc : goal.overflow_add-result-in-Some-repeated_arc
 overflow_add-result-in-Some-repeated_arc c =

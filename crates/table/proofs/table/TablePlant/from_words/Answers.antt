@@ -15,14 +15,14 @@ use Rattle.table.proofs.table.TablePlant.from_words.Goals as goal
 abbrev Answered : List ℕ → Result TablePlant Failure → Type 0
 Answered ws r = MatchResult r (λ p. Granted ws (model_of p.parts)) (λ e. Failed (rows ws) e)
 
-pub returns-in_err-sections : goal.returns-in_err-sections
-returns-in_err-sections c =
+pub returns-in_err-sections-clause-only : goal.returns-in_err-sections-clause-only
+returns-in_err-sections-clause-only c =
     let ws = c.args.words.now in
     let e = c.in_err-sections.field-0.0 in
     let first = c.in_err-sections.ensures in
     let p = err_from_is_err_and c.from_residual.result c.from_residual.ensures.1 in
     let is : c.from_residual.result ≡ Err (Refused e) = p.1 ∙ ap (λ x. Err x) p.2 in
-    record { answer = subst (Answered ws) (sym is) first; only = refused_only ws c.from_residual.result e is first }
+    refused_only ws c.from_residual.result e is first
 
 pub returns-in_err-parts : goal.returns-in_err-parts
 returns-in_err-parts c =
