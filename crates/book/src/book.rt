@@ -8,7 +8,7 @@ use crate::record::Record;
 pub struct Book {
     // a fixed array, made by repetition: the book has no heap
     pub records: [Option<Record>; 256],
-    // for a state's number modulo 256, a place to look at first: advice, and never trusted
+    // for a state's number modulo 256, a place to look at first: advice, and never trusted; an array too, for want of a heap
     pub hints: [u8; 256],
     ghost long: { length records ≡ 256 },
     ghost advised: { length hints ≡ 256 },

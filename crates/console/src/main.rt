@@ -8,7 +8,7 @@ use replies::lines::run;
 use std::io;
 use std::io::{BufWriter, Read, Write};
 
-// The same in each program: a program is its words and its main.
+// The same in each program: one function of `replies` over the program's handle would have nothing to promise.
 fn main(rt: HostRuntime) -> io::Result<()> {
     let heap = rt.alloc();
     let mut script = Vec::new(heap);

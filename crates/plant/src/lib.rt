@@ -62,6 +62,7 @@ pub enum Failure {
     OutOfMemory,
 }
 
+// Both by hand: a derive writes no `from_gives`, by which clauses name the error that `?` makes.
 impl From<Refusal> for Failure {
     ghost from_gives = { λ e r. r ≡ ByRule e };
 

@@ -40,6 +40,7 @@ fn timed_reading(rt: &HostRuntime, states: u32) -> io::Result<()> {
     }
 }
 
+// Beside trial's: what is timed differs, and what is the same is an argument read.
 fn main(rt: HostRuntime) -> io::Result<()> {
     let mut args = env::args(&rt)?;
     let _ = args.next();

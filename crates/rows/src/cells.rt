@@ -19,7 +19,7 @@ pub struct Parts {
     pub last: usize,
 }
 
-// Some arc bears the event. A `for`, and no `any`: the project asks for this form here.
+// Some arc bears the event. A `for`, as docs/DECISIONS.md has it among the language forms.
 fn enabled(arcs: &[Arc], event: u8) -> bool
     ensures { result ≡ bears event arcs.now }
 {

@@ -102,7 +102,7 @@ impl<P: Plant> Known<'_, P> {
     pub(crate) fn run_stands(&self, run: &Run) -> Result<(), Refusal>
         ensures { MatchResult result (λ _. (i : ℕ) → Bad (opens self.now.book.now) (view self.now.book.now (P.Plant.model self.now.plant.now)) (lent_run run.now) i → ⊥) (λ e. (i : ℕ) × Lowest (Bad (opens self.now.book.now) (view self.now.book.now (P.Plant.model self.now.plant.now)) (lent_run run.now)) i × Faulty (opens self.now.book.now) (view self.now.book.now (P.Plant.model self.now.plant.now)) (lent_run run.now) i e) }
     {
-        // by place: a refusal names the place
+        // by place, which a refusal names; `try_for_each` over the places would say the same in a closure
         for place in 0..run.states.len() {
             self.place_stands(run, place)?;
         }

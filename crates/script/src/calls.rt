@@ -40,6 +40,7 @@ pub enum Word {
     Arc,
 }
 
+// Four enums spell their words one by one: a trait over them would hold the same lines.
 impl ListWord {
     fn spelling(self) -> &'static [u8]
         ensures { result.now ≡ spelled_list self }

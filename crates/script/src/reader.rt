@@ -52,6 +52,7 @@ fn given(heap: Global, word: Word, rest: &[u8]) -> Result<Option<Call>, AllocErr
         Word::Text => Ok(Some(Call::Text(Vec::from_slice(heap, rest)?))),
         Word::Hex => Ok(hex(heap, rest)?.map(Call::Text)),
         Word::Alone(word) => Ok(first_word(rest).is_none().then_some(Call::Alone(word))),
+        // no `map` over the array: of a closure that takes one apart nothing is known
         Word::One(word) => {
             let Some(all) = exactly::<1>(heap, rest)? else {
                 return Ok(None);

@@ -96,6 +96,7 @@ impl Sections<'_> {
         }
         let at_events = self.words.len() - 2 * self.events.len();
         let mut from = 0;
+        // the sum runs along: of a closure that changes it a chain tells nothing
         for count in self.counts {
             let end = from + *count as usize;
             if let Some(k) = repeated_arc(&self.events[from..end], &self.targets[from..end]) {

@@ -15,6 +15,7 @@ pub struct Sections<'a> {
     pub initial: &'a [u32],
     pub facts: &'a [u32],
     pub counts: &'a [u32],
+    // two slices side by side, as they stand in the lent words
     pub events: &'a [u32],
     pub targets: &'a [u32],
     ghost measured: { Measured words.now },

@@ -1,4 +1,4 @@
-// A reader borrows the text and keeps its place in it.
+// A reader borrows the text and keeps its place in it: refusals name places, which a slice of what is left would not know.
 ghost use Rattle.std.specs.Prelude.{◌≤◌, length};
 
 #[derive(Drop)]

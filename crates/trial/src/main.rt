@@ -94,6 +94,7 @@ fn timed(rt: &HostRuntime, places: u32) -> io::Result<()> {
     println!(rt; "places {places} micros {took} {answer}")
 }
 
+// Beside plant_trial's: what is timed differs, and what is the same is an argument read.
 fn main(rt: HostRuntime) -> io::Result<()> {
     let mut args = env::args(&rt)?;
     let _ = args.next();
