@@ -4,7 +4,7 @@ ghost use Rattle.console.specs.Known.{every};
 
 use script::calls::{AloneWord, ListWord, Word};
 
-// Every word there is, in the order in which help tells them.
+// Every word that it knows, in the order in which help tells them.
 pub(crate) fn all() -> [Word; 4]
     ensures { result ≡ every }
 {
