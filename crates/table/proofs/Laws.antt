@@ -1,6 +1,6 @@
 -- Words that keep every rule mean a lawful plant, and the parts read from them stand for it.
 -- Relies on Lookups, Paired, Ranges and Apart.
-use Rattle.std.proofs.Common.{◌≡◌, ℕ, zero, suc, ◌+◌, ◌^◌, ◌<◌, ◌≤◌, max, List, [], ◌∷◌, length, get_or, vec_items, fold, sym, ap, ◌∙◌, subst, ⊎_elim, arith}
+use Rattle.std.proofs.Common.{◌≡◌, ℕ, zero, suc, ◌+◌, ◌^◌, ◌<◌, ◌≤◌, max, List, [], ◌∷◌, length, get_or, vec_items, vec_len, fold, sym, ap, ◌∙◌, subst, ⊎_elim, arith}
 use Rattle.std.proofs.lemmas.List.{get_or_past}
 use Rattle.std.proofs.lemmas.Bool.{cases_lt}
 use Rattle.refusal.specs.Rows.{Clear}
@@ -12,6 +12,7 @@ use Rattle.table.specs.Refused.{rows}
 use Rattle.table.specs.Parts.{facts_at, arcs_at, model_of}
 use Rattle.table.specs.declared.parts.State.{State}
 use Rattle.std.specs.Option.{option_map_or}
+use Rattle.std.specs.List.{All}
 use Rattle.std.proofs.lemmas.Option.{slice_get_past}
 use Rattle.table.specs.Measured.{Kept}
 use Rattle.table.specs.Granted.{Read}
@@ -105,13 +106,13 @@ module _ {ws : List ℕ} (kept : Kept ws) where
         ∙ sym (get_or_past (facts ws) s 0 (omega (arith, ge, long_facts kept.measured))))
         (cases_lt s (state_count ws))
 
-    arcs_are : (s : ℕ) → arcs_at (vec_items p.states) s ≡ arcs_of ws s
+    arcs_are : (s : ℕ) → arcs_at (vec_items p.arcs) (vec_items p.states) s ≡ arcs_of ws s
     arcs_are s =
         ⊎_elim
-        (λ lt. read.stated.by_arcs s lt)
+        (λ lt. ap (λ arcs. arcs_at arcs (vec_items p.states) s) read.arcs ∙ read.stated.by_arcs s lt)
         (λ ge.
         let none : get_or (counts ws) s 0 ≡ 0 = get_or_past (counts ws) s 0 (omega (arith, ge, long_counts kept.measured)) in
-        ap (λ o. option_map_or (λ (t : State). vec_items t.arcs) o []) (slice_get_past (vec_items p.states) s (omega (arith, ge, read.stated.many)))
+        ap (λ o. option_map_or (λ (t : State). part t.from t.count (vec_items p.arcs)) o []) (slice_get_past (vec_items p.states) s (omega (arith, ge, read.stated.many)))
         ∙ sym (ap (λ n. part (before ws s) n (all_arcs ws)) none))
         (cases_lt s (state_count ws))
 
@@ -122,6 +123,10 @@ module _ {ws : List ℕ} (kept : Kept ws) where
       width = read.width i;
       system = record { facts = λ s. facts_are s i; arcs = λ s. arcs_are s i; initial = read.initial i };
     }
+
+    -- the arcs of each state stand among all
+    pub arcs_inside : All (λ (t : State). t.from + t.count ≤ vec_len p.arcs) (vec_items p.states)
+    arcs_inside k d lt = omega (arith, read.stated.inside k d lt, ap length read.arcs, long_arcs kept.measured)
 
     pub parts_lawful : Lawful (model_of p)
     parts_lawful = subst Lawful (sym means) lawful

@@ -6,7 +6,7 @@ use Rattle.std.specs.List.{All}
 use Rattle.table.specs.Words.{state_count, arc_count, counts, events, part, paired, all_arcs, arcs_of}
 use Rattle.table.specs.Refused.{OutOfRange}
 use Rattle.table.specs.declared.sections.Sections.{Sections}
-use Rattle.table.proofs.Lookups.{part_long, part_short, part_at}
+use Rattle.table.proofs.Lookups.{part_long, part_short}
 use Rattle.table.proofs.Ranges.{long_counts, long_events, long_targets, at_most, low_events}
 use Rattle.table.proofs.Apart.{before, before_more, ends_within, paired_part}
 
@@ -56,9 +56,12 @@ module _ (t : Sections) (adds : sum (counts t.words.now) ≡ arc_count t.words.n
   pub among : (k : ℕ) → k < length (arcs_of t.words.now n) → k < count
   among k low = omega (arith, count_is, part_short (all_arcs t.words.now) (before t.words.now n) (get_or (counts t.words.now) n 0))
 
-  pub low_part : ((i : ℕ) → OutOfRange t.words.now i → ⊥) → All (λ event. event < 64) (part from (from + count - from) t.events.now)
-  low_part ranged k d lt =
-      let long = part_long t.events.now from (from + count - from) (omega (arith, inside)) in
-      let at = part_at t.events.now from (from + count - from) k d (omega (arith, long)) in
-      let here : from + k < length (events t.words.now) = omega (arith, inside, long, ap length t.by_events) in
-      omega (arith, at, ap (λ xs. get_or xs (from + k) d) t.by_events, get_or_default (events t.words.now) (from + k) d 0 here, low_events t.measured ranged (from + k) here, at_most t.measured 1 (omega arith))
+  -- the state that says where they stand has them
+  pub own_arcs : part from count (all_arcs t.words.now) ≡ arcs_of t.words.now n
+  own_arcs j = part (is j) (count_is j) (all_arcs t.words.now)
+
+-- the events of arcs that are in range
+pub all_low : (t : Sections) → ((i : ℕ) → OutOfRange t.words.now i → ⊥) → All (λ event. event < 64) t.events.now
+all_low t ranged k d lt =
+    let here : k < length (events t.words.now) = omega (arith, lt, ap length t.by_events) in
+    omega (arith, ap (λ xs. get_or xs k d) t.by_events, get_or_default (events t.words.now) k d 0 here, low_events t.measured ranged k here, at_most t.measured 1 (omega arith))

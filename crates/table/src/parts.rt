@@ -1,11 +1,12 @@
 // What is read of a table plant's words. Relies on meaning.
 use meaning::Arc;
 
-// A state: its facts, as bits, and its arcs in their order.
-#[derive(Drop)]
+// A state: its facts, as bits, and where its arcs stand among those of all states.
+#[derive(Clone, Copy, Debug, PartialEq, Eq)]
 pub struct State {
     pub facts: u32,
-    pub arcs: Vec<Arc>,
+    pub from: u32,
+    pub count: u32,
 }
 
 // The events are those below `events`, and state s is the one at place s.
@@ -16,4 +17,6 @@ pub struct Parts {
     pub width: u8,
     pub initial: Vec<u32>,
     pub states: Vec<State>,
+    // the arcs of all states, state by state: a vector in each state took up to three times the memory
+    pub arcs: Vec<Arc>,
 }

@@ -1,5 +1,5 @@
 // What a table plant answers: each in constant time. Relies on table.
-ghost use Rattle.std.specs.Prelude.{◌≡◌, slice_get};
+ghost use Rattle.std.specs.Prelude.{◌≡◌, ◌+◌, slice_get};
 ghost use Rattle.std.specs.Option.{option_map};
 ghost use Rattle.table.specs.Parts.{model_of};
 
@@ -7,6 +7,18 @@ use crate::parts::State;
 use crate::table::TablePlant;
 use meaning::Arc;
 use plant::{PAST_ARC, Plant};
+use std::ops::Range;
+
+impl State {
+    // The places of its arcs among those of all states.
+    fn places(&self) -> Range<usize>
+        ensures start { result.start ≡ self.now.from }
+        ensures end { result.end ≡ self.now.from + self.now.count }
+    {
+        let from = self.from as usize;
+        from..from + self.count as usize
+    }
+}
 
 impl TablePlant {
     // The state with a number: none at or beyond the extent.
@@ -21,7 +33,10 @@ impl TablePlant {
     fn arcs_of(&self, state: u32) -> &[Arc]
         ensures { result.now ≡ (model_of self.now.parts).system.arcs state }
     {
-        self.state(state).map_or(&[], |state| state.arcs.as_slice())
+        match self.state(state) {
+            Some(state) => &self.parts.arcs[state.places()],
+            None => &[],
+        }
     }
 }
 

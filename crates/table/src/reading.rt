@@ -42,7 +42,7 @@ fn arcs(heap: Global, events: &[u32], targets: &[u32]) -> Result<Vec<Arc>, Alloc
 }
 
 impl Sections<'_> {
-    // The states that the words say, owned.
+    // The states that the words say.
     fn states(&self, heap: Global) -> Result<Vec<State>, AllocError>
         requires { Kept self.now.words.now }
         ensures { IfOk result (λ v. Stated self.now.words.now v.items) }
@@ -50,13 +50,12 @@ impl Sections<'_> {
         let mut states = Vec::with_capacity(heap, self.facts.len())?;
         let mut from = 0;
         for (facts, count) in self.facts.iter().zip(self.counts) {
-            let end = from + *count as usize;
-            let arcs = arcs(heap, &self.events[from..end], &self.targets[from..end])?;
             states.push(State {
                 facts: *facts,
-                arcs,
+                from,
+                count: *count,
             })?;
-            from = end;
+            from += *count;
         }
         Ok(states)
     }
@@ -68,11 +67,13 @@ impl Sections<'_> {
     {
         let initial = Vec::from_slice(heap, self.initial)?;
         let states = self.states(heap)?;
+        let arcs = arcs(heap, self.events, self.targets)?;
         Ok(Parts {
             events: self.words[1] as u8,
             width: most(self.counts) as u8,
             initial,
             states,
+            arcs,
         })
     }
 }

@@ -7,7 +7,7 @@ use Rattle.table.specs.Parts.{model_of}
 use Rattle.table.specs.Refused.{rows}
 use Rattle.table.specs.Granted.{Granted, Read}
 use Rattle.table.specs.declared.table.TablePlant.{TablePlant}
-use Rattle.table.proofs.Laws.{clear, means, parts_lawful}
+use Rattle.table.proofs.Laws.{clear, means, parts_lawful, arcs_inside}
 use Rattle.table.proofs.Outcome.{refused_only, clear_only}
 use Rattle.table.proofs.table.TablePlant.from_words.Goals as goal
 
@@ -36,7 +36,7 @@ pub invariant_of-result : goal.invariant_of-result
 invariant_of-result c =
     let kept = c.in_ok-sections.ensures.0 in
     let read = subst (λ ws. Read ws c.in_ok-parts.parts) c.in_ok-sections.ensures.1 c.in_ok-parts.ensures in
-    record { lawful = parts_lawful kept read }
+    record { lawful = parts_lawful kept read; inside = arcs_inside kept read }
 
 pub returns : goal.returns
 returns c =
