@@ -1,5 +1,5 @@
 -- The model that the parts of a rule plant make, and what is asked of the parts. Relies on Values and plant's models.
-use Rattle.std.specs.Prelude.{◌≡◌, ℕ, ◌<◌, ◌≤◌, cond, List, [], ◌∷◌, length, Some, None, vec_items, Option, nat_lt, slice_get, slice_index, slice_index_or}
+use Rattle.std.specs.Prelude.{◌≡◌, ℕ, ◌<◌, ◌≤◌, cond, List, [], ◌∷◌, length, take, Some, None, vec_items, Option, nat_lt, slice_get, slice_index, slice_index_or}
 use Rattle.std.specs.Option.{option_map_or}
 use Rattle.std.specs.List.{range_with_len, flat_map}
 use Rattle.meaning.specs.declared.Arc.{Arc}
@@ -19,18 +19,18 @@ width_of p = length (sizes_of p)
 abbrev pub rule_count : Parts → ℕ
 rule_count p = length (vec_items p.rules)
 
--- what rule r needs and what it sets: nothing past the last rule
-abbrev pub needs_in : List Rule → ℕ → List (Option ℕ)
-needs_in all r = option_map_or (λ (rule : Rule). vec_items rule.needs) (slice_get all r) []
+-- what rule r needs of the first n variables, and what it sets: nothing past the last rule
+abbrev pub needs_in : ℕ → List Rule → ℕ → List (Option ℕ)
+needs_in n all r = option_map_or (λ (rule : Rule). take n rule.needs) (slice_get all r) []
 
-abbrev pub sets_in : List Rule → ℕ → List (Option ℕ)
-sets_in all r = option_map_or (λ (rule : Rule). vec_items rule.sets) (slice_get all r) []
+abbrev pub sets_in : ℕ → List Rule → ℕ → List (Option ℕ)
+sets_in n all r = option_map_or (λ (rule : Rule). take n rule.sets) (slice_get all r) []
 
 abbrev pub needs_of : Parts → ℕ → List (Option ℕ)
-needs_of p r = needs_in (vec_items p.rules) r
+needs_of p r = needs_in (width_of p) (vec_items p.rules) r
 
 abbrev pub sets_of : Parts → ℕ → List (Option ℕ)
-sets_of p r = sets_in (vec_items p.rules) r
+sets_of p r = sets_in (width_of p) (vec_items p.rules) r
 
 -- the state that rule r leads to from the values vs
 abbrev pub target_of : Parts → List ℕ → ℕ → ℕ

@@ -85,6 +85,12 @@ module _ (ws : List ℕ) (shaped : Shaped ws) where
       omega (arith, add-mul (rules ws) r (variables ws)) in
       row_is ws (2 + variables ws + rules ws * variables ws) (rules ws) (variables ws) r l ∙ ap (λ a. take (variables ws) (drop a ws)) place
 
+  -- row k behind the sizes has a word for each variable
+  pub long_row : (k : ℕ) → k < 2 * rules ws → length (row ws k) ≡ variables ws
+  long_row k l =
+      length-take-le (variables ws) (drop (2 + variables ws + k * variables ws) ws)
+      (omega (arith, length-drop (2 + variables ws + k * variables ws) ws, shaped.long, row_within k (2 * rules ws) (variables ws) l))
+
   -- where no word is foreign, each of row k behind the sizes is at most 255
   pub row_bytes : ((i : ℕ) → Foreign ws i → ⊥) → (k : ℕ) → k < 2 * rules ws → All (λ word. word ≤ 255) (row ws k)
   row_bytes native k l =

@@ -1,5 +1,5 @@
 -- Words that no row refuses: the parts read of them are within their bounds, and make the model that they mean. Relies on Tied and Spots.
-use Rattle.std.proofs.Common.{◌≡◌, ℕ, ◌+◌, ◌*◌, ◌/◌, ◌%◌, ◌^◌, ◌<◌, ◌≤◌, cond, not, eqb, ltb, List, [], ◌∷◌, length, get_or, drop, Some, None, Decides, sym, refl, ap, ◌∙◌, subst, ⊎_elim, add-mul, arith}
+use Rattle.std.proofs.Common.{◌≡◌, ℕ, ◌+◌, ◌*◌, ◌/◌, ◌%◌, ◌^◌, ◌<◌, ◌≤◌, cond, not, eqb, ltb, List, [], ◌∷◌, map, vec_items, length, get_or, drop, Some, None, Decides, sym, refl, ap, ◌∙◌, subst, ⊎_elim, add-mul, arith}
 use Rattle.std.specs.List.{range_with_len, flat_map}
 use Rattle.std.proofs.lemmas.List.{length-take-le, length-drop, length-map, get_or-map, get_or-take, get_or-drop}
 use Rattle.std.proofs.lemmas.Bool.{cases_lt, cases_Bool, cond-true, cond-false, eqb-false, lt-ltb}
@@ -8,13 +8,14 @@ use Rattle.refusal.specs.declared.Refusal.{Refusal}
 use Rattle.refusal.proofs.Settled.{one_refusal, not_both, one_lowest, one_fails}
 use Rattle.guarded.specs.declared.Parts.{Parts}
 use Rattle.guarded.specs.Values.{extent_of, values_of, number_of, facts_of, meets, after, Sized}
-use Rattle.guarded.specs.Made.{sizes_of, width_of, rule_count, needs_of, sets_of, target_of, arc_by, arcs_by, model_of, Few, Filled, InRange}
+use Rattle.guarded.specs.Made.{sizes_of, width_of, rule_count, needs_in, sets_in, needs_of, sets_of, target_of, arc_by, arcs_by, model_of, Few, Filled, InRange}
 use Rattle.guarded.proofs.Numbering.{Below, values_below, number_below, number_values, values_number, facts_decide}
 use Rattle.guarded.proofs.Laws.{lawful}
 use Rattle.rule.specs.Words.{variables, rules, sizes, row, needs, sets, Shaped, Foreign, rows}
 use Rattle.rule.specs.Meaning.{product, number, Values, met, changed, arc_of, arcs_at, Means}
 use Rattle.rule.specs.Read.{Reads, Granted, value_in}
 use Rattle.rule.proofs.Picks.{row_within, arcs_at_state}
+use Rattle.rule.proofs.Rows.{long_row}
 use Rattle.rule.proofs.Tied.{product_is, number_is, meets_is, after_is, joined_same}
 
 -- a word that names a value is that value, and not 255
@@ -35,11 +36,11 @@ module _ (ws : List ℕ) (p : Parts) (shaped : Shaped ws) (reads : Reads ws p) w
   many : rule_count p ≡ rules ws
   many = reads.ruled.many
 
-  -- row k of the rows behind the sizes
-  length_row : (k : ℕ) → k < 2 * rules ws → length (row ws k) ≡ variables ws
-  length_row k l =
-      length-take-le (variables ws) (drop (2 + variables ws + k * variables ws) ws)
-      (omega (arith, length-drop (2 + variables ws + k * variables ws) ws, shaped.long, row_within k (2 * rules ws) (variables ws) l))
+  needs_are : (r : ℕ) → r < rules ws → needs_of p r ≡ map value_in (needs ws r)
+  needs_are r l = ap (λ n. needs_in n (vec_items p.rules) r) width_is ∙ reads.ruled.by_needs r l
+
+  sets_are : (r : ℕ) → r < rules ws → sets_of p r ≡ map value_in (sets ws r)
+  sets_are r l = ap (λ n. sets_in n (vec_items p.rules) r) width_is ∙ reads.ruled.by_sets r l
 
   sized : Sized (sizes_of p)
   sized = subst Sized (sym reads.by_sizes) (λ j l. (shaped.some_values j (omega (arith, length_sizes)), shaped.few_values j (omega (arith, length_sizes))))
@@ -54,8 +55,8 @@ module _ (ws : List ℕ) (p : Parts) (shaped : Shaped ws) (reads : Reads ws p) w
 
   pub filled : Filled p
   filled r l = (
-    ap length (reads.ruled.by_needs r (omega (arith, many))) ∙ length-map (needs ws r) value_in ∙ length_row r (omega (arith, many)) ∙ sym width_is,
-    ap length (reads.ruled.by_sets r (omega (arith, many))) ∙ length-map (sets ws r) value_in ∙ length_row (rules ws + r) (omega (arith, many)) ∙ sym width_is,
+    ap length (needs_are r (omega (arith, many))) ∙ length-map (needs ws r) value_in ∙ long_row ws shaped r (omega (arith, many)) ∙ sym width_is,
+    ap length (sets_are r (omega (arith, many))) ∙ length-map (sets ws r) value_in ∙ long_row ws shaped (rules ws + r) (omega (arith, many)) ∙ sym width_is,
   )
 
   pub ranged : ((i : ℕ) → Foreign ws i → ⊥) → InRange p
@@ -67,7 +68,7 @@ module _ (ws : List ℕ) (p : Parts) (shaped : Shaped ws) (reads : Reads ws p) w
       let long : length (sets ws r) ≡ variables ws = length-take-le (variables ws) (drop at ws) (omega (arith, length-drop at ws)) in
       let word : get_or (sets ws r) j 0 ≡ get_or ws (at + j) 0 = get_or-take (variables ws) (drop at ws) j 0 narrow ∙ get_or-drop at ws j 0 in
       let read : get_or (sets_of p r) j None ≡ value_in (get_or (sets ws r) j 0) =
-      ap (λ os. get_or os j None) (reads.ruled.by_sets r (omega (arith, h.0, many))) ∙ get_or-map value_in (sets ws r) j 0 None (omega arith) in
+      ap (λ os. get_or os j None) (sets_are r (omega (arith, h.0, many))) ∙ get_or-map value_in (sets ws r) j 0 None (omega arith) in
       let is = named (get_or ws (at + j) 0) v (sym (ap value_in word) ∙ sym read ∙ h.2) in
       ⊎_elim
       (λ lt. lt)
@@ -104,9 +105,9 @@ module _ (ws : List ℕ) (p : Parts) (shaped : Shaped ws) (reads : Reads ws p) w
 
   arc_same : (vs : List ℕ) (r : ℕ) → r < rule_count p → arc_by p vs r ≡ arc_of ws vs r
   arc_same vs r l =
-      let enabled : meets (needs_of p r) vs ≡ met (needs ws r) vs = ap (λ os. meets os vs) (reads.ruled.by_needs r (omega (arith, many))) ∙ meets_is (needs ws r) vs in
+      let enabled : meets (needs_of p r) vs ≡ met (needs ws r) vs = ap (λ os. meets os vs) (needs_are r (omega (arith, many))) ∙ meets_is (needs ws r) vs in
       let leads : target_of p vs r ≡ number (sizes ws) (changed (sets ws r) vs) =
-      sym (number_agrees (after (sets_of p r) vs)) ∙ ap (number (sizes ws)) (ap (λ os. after os vs) (reads.ruled.by_sets r (omega (arith, many))) ∙ after_is (sets ws r) vs) in
+      sym (number_agrees (after (sets_of p r) vs)) ∙ ap (number (sizes ws)) (ap (λ os. after os vs) (sets_are r (omega (arith, many))) ∙ after_is (sets ws r) vs) in
       λ i. cond (enabled i) (record { event = r; target = leads i } ∷ []) []
 
   arcs_of : (vs : List ℕ) → Values (sizes ws) vs → (model_of p).system.arcs (number (sizes ws) vs) ≡ arcs_at ws vs

@@ -5,7 +5,7 @@ use Rattle.plant.specs.Model.{Model, Lawful}
 use Rattle.guarded.specs.declared.Parts.{Parts}
 use Rattle.guarded.specs.declared.Rule.{Rule}
 use Rattle.guarded.specs.Made.{sizes_of, needs_in, sets_in}
-use Rattle.rule.specs.Words.{rules, sizes, needs, sets, rows}
+use Rattle.rule.specs.Words.{variables, rules, sizes, needs, sets, rows}
 use Rattle.rule.specs.Meaning.{Means}
 
 -- the value that a need or a set names: 255 names none
@@ -15,8 +15,8 @@ value_in w = cond (w == 255) None (Some w)
 -- the rules are those that stand in the words
 pub record Ruled (ws : List ℕ) (all : List Rule) : Type 0 where
   pub many : length all ≡ rules ws
-  pub by_needs : (r : ℕ) → r < rules ws → needs_in all r ≡ map value_in (needs ws r)
-  pub by_sets : (r : ℕ) → r < rules ws → sets_in all r ≡ map value_in (sets ws r)
+  pub by_needs : (r : ℕ) → r < rules ws → needs_in (variables ws) all r ≡ map value_in (needs ws r)
+  pub by_sets : (r : ℕ) → r < rules ws → sets_in (variables ws) all r ≡ map value_in (sets ws r)
 
 -- the parts are what stands in the words
 pub record Reads (ws : List ℕ) (p : Parts) : Type 0 where

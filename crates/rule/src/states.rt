@@ -12,16 +12,16 @@ pub(crate) struct Sizes<'a> {
 
 impl<'a> Sizes<'a> {
     // The size of the first variable, and those of the others.
-    fn split_first(&self) -> Option<(u32, Sizes<'a>)>
-        ensures { MatchOption result (self.now.sizes.now ≡ []) (λ p. self.now.sizes.now ≡ p.0 ∷ p.1.sizes.now) }
+    fn split_first(self) -> Option<(u32, Sizes<'a>)>
+        ensures { MatchOption result (self.entry.sizes.now ≡ []) (λ p. self.entry.sizes.now ≡ p.0 ∷ p.1.sizes.now) }
     {
         let (size, others) = self.sizes.split_first()?;
         Some((u32::from(*size), Sizes { sizes: others }))
     }
 
     // How many states there are.
-    pub(crate) fn extent(&self) -> u64
-        ensures { result ≡ extent_of self.now.sizes.now }
+    pub(crate) fn extent(self) -> u64
+        ensures { result ≡ extent_of self.entry.sizes.now }
     {
         let Some((size, others)) = self.split_first() else {
             return 1;
@@ -30,8 +30,8 @@ impl<'a> Sizes<'a> {
     }
 
     // The facts of a state, as bits.
-    pub(crate) fn facts(&self, state: u32) -> u32
-        ensures { result ≡ facts_of (values_of self.now.sizes.now state) }
+    pub(crate) fn facts(self, state: u32) -> u32
+        ensures { result ≡ facts_of (values_of self.entry.sizes.now state) }
     {
         let Some((size, others)) = self.split_first() else {
             return 0;
@@ -41,8 +41,8 @@ impl<'a> Sizes<'a> {
     }
 
     // Whether a rule's needs are met in a state.
-    pub(crate) fn met(&self, needs: &[Option<u8>], state: u32) -> bool
-        ensures { result ≡ meets needs.now (values_of self.now.sizes.now state) }
+    pub(crate) fn met(self, needs: &[Option<u8>], state: u32) -> bool
+        ensures { result ≡ meets needs.now (values_of self.entry.sizes.now state) }
     {
         let [need, needs @ ..] = needs else {
             return true;
@@ -55,10 +55,10 @@ impl<'a> Sizes<'a> {
     }
 
     // The state that a rule's sets lead to.
-    pub(crate) fn target(&self, sets: &[Option<u8>], state: u32) -> u32
-        requires long { length sets.now ≡ length self.now.sizes.now }
-        requires ranged { Ranged self.now.sizes.now sets.now }
-        ensures { result ≡ number_of self.now.sizes.now (after sets.now (values_of self.now.sizes.now state)) }
+    pub(crate) fn target(self, sets: &[Option<u8>], state: u32) -> u32
+        requires long { length self.sizes.now ≤ length sets.now }
+        requires ranged { Ranged self.sizes.now sets.now }
+        ensures { result ≡ number_of self.entry.sizes.now (after sets.now (values_of self.entry.sizes.now state)) }
     {
         let [set, sets @ ..] = sets else {
             return 0;

@@ -1,6 +1,6 @@
 // Rule plants from words, or the refusal of the first row that applies. All is checked before memory is asked for.
 // Relies on rule and sections.
-ghost use Rattle.std.specs.Prelude.{◌≡◌, ℕ, ◌≤◌, map, IfOk, Err, MatchResult};
+ghost use Rattle.std.specs.Prelude.{◌≡◌, ℕ, ◌≤◌, map, length, take, IfOk, Err, MatchResult};
 ghost use Rattle.std.specs.List.{All};
 ghost use Rattle.refusal.specs.Rows.{First};
 ghost use Rattle.refusal.specs.declared.Refusal.{Refusal as Given};
@@ -33,12 +33,17 @@ fn value(word: u32) -> Option<u8>
     (word != ANY).then_some(word as u8)
 }
 
-// The values that the words name.
-fn values(heap: Global, words: &[u32]) -> Result<Vec<Option<u8>>, AllocError>
-    requires { All (λ word. word ≤ 255) words.now }
-    ensures { IfOk result (λ v. v.items ≡ map value_in words.now) }
+// The values that the words of a row name, one for each variable.
+fn values(words: &[u32]) -> [Option<u8>; 8]
+    requires small { All (λ word. word ≤ 255) words.now }
+    requires few { length words.now ≤ 8 }
+    ensures { take (length words.now) result ≡ map value_in words.now }
 {
-    words.iter().map(|word| value(*word)).collect(heap)
+    let mut values = [None; 8];
+    for (j, word) in words.iter().enumerate() {
+        values[j] = value(*word);
+    }
+    values
 }
 
 impl Sections<'_> {
@@ -48,11 +53,11 @@ impl Sections<'_> {
         ensures { IfOk result (λ v. Ruled self.now.words.now v.items) }
     {
         let width = self.sizes.len();
-        let mut rules = Vec::new(heap);
+        let mut rules = Vec::with_capacity(heap, self.words[1] as usize)?;
         for (needs, sets) in self.needs.chunks(width).zip(self.sets.chunks(width)) {
             rules.push(Rule {
-                needs: values(heap, needs)?,
-                sets: values(heap, sets)?,
+                needs: values(needs),
+                sets: values(sets),
             })?;
         }
         Ok(rules)

@@ -15,6 +15,6 @@ invariant-loop-needs l = record {
   needs_left : chunks_rest (zip_first l.needs-iterator) ≡ drop (length (vec_items l.rules) * variables l.self.words.now) (all_needs l.self.words.now);
   sets_left : chunks_rest (zip_second l.needs-iterator) ≡ drop (length (vec_items l.rules) * variables l.self.words.now) (all_sets l.self.words.now);
   few : length (vec_items l.rules) ≤ rules l.self.words.now;
-  by_needs : (r : ℕ) → r < length (vec_items l.rules) → needs_in (vec_items l.rules) r ≡ map value_in (needs l.self.words.now r);
-  by_sets : (r : ℕ) → r < length (vec_items l.rules) → sets_in (vec_items l.rules) r ≡ map value_in (sets l.self.words.now r);
+  by_needs : (r : ℕ) → r < length (vec_items l.rules) → needs_in (variables l.self.words.now) (vec_items l.rules) r ≡ map value_in (needs l.self.words.now r);
+  by_sets : (r : ℕ) → r < length (vec_items l.rules) → sets_in (variables l.self.words.now) (vec_items l.rules) r ≡ map value_in (sets l.self.words.now r);
 }
