@@ -1,8 +1,9 @@
-use Rattle.std.proofs.Common.{◌≡◌, is_some, count_by, sym, ◌∙◌, rules}
+use Rattle.std.proofs.Common.{is_some, count_by, sym, ap, ◌∙◌, arith}
+use Rattle.std.proofs.lemmas.List.{take_all}
 use Rattle.book.proofs.Rows.{open_count}
 use Rattle.book.proofs.book.Book.len.Goals as goal
 
 pub returns : goal.returns
 returns c =
-    let taken : c.count.result ≡ count_by is_some c.args.self.now.records = search rules in
-    taken ∙ sym (open_count c.args.self.now.records)
+    let b = c.args.self.now in
+    c.loop-place.invariant.0 ∙ ap (count_by is_some) (take_all c.loop-place.place-index b.records (omega (arith, b.long, c.loop-place-test.false))) ∙ sym (open_count b.records)
